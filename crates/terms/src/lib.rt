@@ -39,13 +39,29 @@ pub struct Volume {
 #[derive(Clone, Copy, PartialEq, Eq, Debug)]
 pub enum Action {
     // opens an account
-    Create { account: u32 },
+    Create {
+        account: u32,
+    },
     // pays from the source to the receiver
-    Pay { receiver: u32, asset: u8, amount: u64 },
+    Pay {
+        receiver: u32,
+        asset: u8,
+        amount: u64,
+    },
     // offers an amount of the sold asset; the offer's key has the source and the sequence number of the transaction
-    Place { sold: u8, bought: u8, limit: u32, amount: u64 },
+    Place {
+        sold: u8,
+        bought: u8,
+        limit: u32,
+        amount: u64,
+    },
     // takes back the source's offer that was placed under this sequence number
-    Cancel { sold: u8, bought: u8, limit: u32, offer: u32 },
+    Cancel {
+        sold: u8,
+        bought: u8,
+        limit: u32,
+        offer: u32,
+    },
 }
 
 // A transaction: the account that it comes from, that account's sequence number, and what it asks for.

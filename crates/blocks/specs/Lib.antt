@@ -1,0 +1,4 @@
+pub mod Format
+pub mod Shown
+pub mod Readable
+pub mod Laws
