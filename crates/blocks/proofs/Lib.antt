@@ -1,1 +1,4 @@
 mod Fields
+mod Steps
+mod Drafting
+mod Walking

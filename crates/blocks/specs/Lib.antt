@@ -1,4 +1,6 @@
 pub mod Format
 pub mod Shown
 pub mod Readable
+pub mod Stages
+pub mod Drafts
 pub mod Laws

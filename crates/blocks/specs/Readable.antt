@@ -190,7 +190,7 @@ Unended cs = Has cs end → ⊥
 
 abbrev pub Flawed : (Cmd → Bool) → List ℕ → List Cmd → ℕ → Flaw → Type 0
 -- the bytes end before a letter, or in the command of a letter
-Flawed opens bs cs at missing = Unended cs × (whole bs at ≡ false) × ((at ≡ length bs) ⊎ (lettered bs at ≡ true))
+Flawed opens bs cs at missing = Unended cs × (whole bs at ≡ false) × ((length bs ≤ at) ⊎ (lettered bs at ≡ true))
 -- a byte stands there that is no letter of a command
 Flawed opens bs cs at unknown = Unended cs × (at < length bs) × (lettered bs at ≡ false)
 -- a whole command that may not come here

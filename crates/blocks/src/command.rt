@@ -4,7 +4,7 @@
 pub enum Command<'a> {
     Begin {
         height: u32,
-        parent: &'a [u8],
+        parent: &'a [u8; 32],
     },
     Price {
         asset: u8,
@@ -26,7 +26,7 @@ pub enum Command<'a> {
         receiver: u32,
         asset: u8,
         amount: u64,
-        memo: &'a [u8],
+        memo: &'a [u8; 16],
     },
     Place {
         source: u32,
@@ -46,7 +46,7 @@ pub enum Command<'a> {
     },
     Found {
         account: u32,
-        balances: &'a [u8],
+        balances: &'a [u8; 64],
     },
     End,
 }

@@ -5,12 +5,14 @@ ghost use Prim.Native.Nat.{ℕ, _+_, _-_, _*_, _<_, _≤_};
 ghost use lib.Dec.{eqb, ltb};
 ghost use lib.ListN.{length, getD};
 ghost use Rattle.std.specs.Results.{Cases};
+ghost use Rattle.std.specs.Holes.{between};
 ghost use Rattle.terms.specs.Bytes.{field};
 ghost use Rattle.terms.specs.Ranges.{areBalances};
 ghost use Rattle.blocks.specs.Format.{width, balances as eight, fit, whole, commandAt, widthAt, outcome, refused, cut, beginAt, priceAt, volumeAt, createAt, payAt, placeAt, cancelAt, foundAt};
 ghost use Rattle.blocks.specs.Shown.{shown, told};
 use crate::command::Command;
 use crate::command::Reading;
+use crate::ranges::in_range;
 use terms::Fault;
 
 // How many bytes a command has, with its letter; 0 for a byte that is no letter of a command.
@@ -56,13 +58,21 @@ pub(crate) fn long(bytes: &[u8], at: usize) -> u64
     ])
 }
 
+// The N bytes at a place.
+fn part<const N: usize>(bytes: &[u8], at: usize) -> &[u8; N]
+    requires { ⌜ at + N ≤ length (now bytes) ⌝ }
+    ensures { λ r. ⌜ now r ≡ between at (at + N) (now (bytes .entry)) ⌝ }
+{
+    bytes[at..at + N].first_chunk::<N>().unwrap()
+}
+
 fn begin<'a>(bytes: &'a [u8], at: usize) -> Command<'a>
     requires { ⌜ at + 37 ≤ length (now bytes) ⌝ }
     ensures { λ r. ⌜ shown r ≡ beginAt (now (bytes .entry)) at ⌝ }
 {
     Command::Begin {
         height: word(bytes, at + 1),
-        parent: &bytes[at + 5..at + 37],
+        parent: part(bytes, at + 5),
     }
 }
 
@@ -107,7 +117,7 @@ fn pay<'a>(bytes: &'a [u8], at: usize) -> Command<'a>
     let receiver = word(bytes, at + 9);
     let asset = bytes[at + 13];
     let amount = long(bytes, at + 14);
-    let memo = &bytes[at + 22..at + 38];
+    let memo = part(bytes, at + 22);
     Command::Pay {
         source,
         sequence,
@@ -164,7 +174,7 @@ fn found<'a>(bytes: &'a [u8], at: usize) -> Command<'a>
 {
     Command::Found {
         account: word(bytes, at + 1),
-        balances: &bytes[at + 5..at + 69],
+        balances: part(bytes, at + 5),
     }
 }
 
@@ -216,4 +226,20 @@ pub(crate) fn parse<'a>(bytes: &'a [u8], at: usize) -> Result<Reading<'a>, Fault
         command: operands(bytes, at),
         next: at + width,
     })
+}
+
+// The command at a place and the place after it; or fault 3, no letter of a command stands there; 2, the bytes end before
+// the letter or in the command; 5, an operand is out of range.
+pub fn read<'a>(bytes: &'a [u8], at: usize) -> Result<Reading<'a>, Fault>
+    ensures { λ r. ⌜ told r ≡ outcome (now (bytes .entry)) at ⌝ }
+{
+    let reading = parse(bytes, at)?;
+    if !in_range(reading.command) {
+        return Err(Fault {
+            number: 5,
+            first: at as u64,
+            second: 0,
+        });
+    }
+    Ok(reading)
 }

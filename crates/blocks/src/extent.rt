@@ -1,0 +1,23 @@
+// Where the first block or founding of a longer run of bytes ends.
+ghost use Rattle.std.specs.Results.{Cases};
+ghost use Rattle.blocks.specs.Readable.{Ends, Endless};
+
+use crate::command::Command;
+use crate::parser::parse;
+use terms::Fault;
+
+// How many bytes there are up to and with the first end command; or fault 3, no letter of a command stands at a place;
+// 2, the bytes end before an end command. Only letters and widths are looked at.
+pub fn length(bytes: &[u8]) -> Result<usize, Fault>
+    ensures { λ r. ⌜ Cases r (Ends (now (bytes .entry))) (Endless (now (bytes .entry))) ⌝ }
+{
+    let mut at = 0;
+    while at < bytes.len() {
+        let reading = parse(bytes, at)?;
+        if let Command::End = reading.command {
+            return Ok(reading.next);
+        }
+        at = reading.next;
+    }
+    Err(Fault { number: 2, first: at as u64, second: 0 })
+}
