@@ -19,7 +19,7 @@ use Rattle.blocks.specs.declared.stage.Stage.the-variants.{Start, Price, First
 use Rattle.blocks.specs.Format.{Cmd, begin, price, volume, transaction, found, end, fit}
 use Rattle.blocks.specs.Readable.{heights, parents, prices, volumes, transactions, pair}
 use Rattle.blocks.specs.Stages.{admits, afterwards}
-use Rattle.blocks.specs.Drafts.{added}
+use Rattle.blocks.specs.Drafts.{added, Room}
 use Rattle.blocks.proofs.Steps.{joined-push}
 
 -- how many prices there are at a stage, and at most how many volumes
@@ -92,10 +92,14 @@ module _ (d : Draft) (cs : List Cmd) where
   says-begin Start h p s m =
       let c = begin h p in
       record {
-        proper = tt; long = s .long;
+        proper = tt;
+        long = s .long;
         begun = (joined-push heights cs c ∙ ap (λ l. l ++ h ∷ []) (s .begun .0), joined-push parents cs c ∙ ap (λ l. l ++ p) (s .begun .1));
-        priced = none prices cs c refl ∙ s .priced; traded = none volumes cs c refl ∙ s .traded; pairs = s .pairs;
-        moved = none transactions cs c refl ∙ s .moved; few = s .few
+        priced = none prices cs c refl ∙ s .priced;
+        traded = none volumes cs c refl ∙ s .traded;
+        pairs = s .pairs;
+        moved = none transactions cs c refl ∙ s .moved;
+        few = s .few;
       }
   says-begin (Price x) h p s m = absurd (false≢true m)
   says-begin FirstVolume h p s m = absurd (false≢true m)
@@ -117,20 +121,32 @@ module _ (d : Draft) (cs : List Cmd) where
       let is : x ≡ y = eqb-true x y m in
       let more = take-more-set (d .prices) x p (subst (λ n. x < n) (sym (s .long .0)) l) in
       let now : joined prices (cs ++ c ∷ []) ≡ take (x + 1) (set (d .prices) x p) =
-          joined-push prices cs c ∙ (ap (λ l. l ++ p ∷ []) (s .priced ∙ ap (λ n. take n (d .prices)) (sym is)) ∙ sym more) in
+      joined-push prices cs c ∙ (ap (λ l. l ++ p ∷ []) (s .priced ∙ ap (λ n. take n (d .prices)) (sym is)) ∙ sym more) in
       let long : (length (set (d .prices) x p) ≡ 8) × (length (d .volumes) ≡ 56) × (length (d .transactions) ≡ 1024) =
-          (length-set (d .prices) x p ∙ s .long .0, s .long .1, s .long .2) in
+      (length-set (d .prices) x p ∙ s .long .0, s .long .1, s .long .2) in
       let b = stays c (d .height) (d .parent) refl refl (s .begun) in
       let D = added d c in
       let at : (t : Bool) → ltb x 7 ≡ t → Says (cond t (Price (x + 1)) FirstVolume) D (cs ++ c ∷ []) = λ t. elim t as (λ t. ltb x 7 ≡ t → Says (cond t (Price (x + 1)) FirstVolume) D (cs ++ c ∷ [])) [
-        true ↦ λ e. record {
-          proper = tt; long = long; begun = b; priced = now; traded = none volumes cs c refl ∙ s .traded; pairs = s .pairs;
-          moved = none transactions cs c refl ∙ s .moved; few = s .few }
-      | false ↦ λ e. record {
-          proper = tt; long = long; begun = b;
+        | true ↦ λ e. record {
+          proper = tt;
+          long = long;
+          begun = b;
+          priced = now;
+          traded = none volumes cs c refl ∙ s .traded;
+          pairs = s .pairs;
+          moved = none transactions cs c refl ∙ s .moved;
+          few = s .few;
+        }
+        | false ↦ λ e. record {
+          proper = tt;
+          long = long;
+          begun = b;
           priced = now ∙ ap (λ n. take n (set (d .prices) x p)) (let h : 7 ≤ x = ltb-false x 7 e in let r : x + 1 ≡ 8 = omega arith in r);
-          traded = none volumes cs c refl ∙ s .traded; pairs = s .pairs;
-          moved = none transactions cs c refl ∙ s .moved; few = s .few }
+          traded = none volumes cs c refl ∙ s .traded;
+          pairs = s .pairs;
+          moved = none transactions cs c refl ∙ s .moved;
+          few = s .few;
+        }
       ] in
       at (ltb x 7) refl
   says-price FirstVolume x p s m f = absurd (false≢true m)
@@ -148,11 +164,14 @@ module _ (d : Draft) (cs : List Cmd) where
         let l : d .pairs < 56 = omega (arith, rank-bound (v .sold) (v .bought) i .1) in
         let more = take-more-set (d .volumes) (d .pairs) v (subst (λ n. d .pairs < n) (sym (s .long .1)) l) in
         record {
-          proper = i; long = (s .long .0, length-set (d .volumes) (d .pairs) v ∙ s .long .1, s .long .2);
+          proper = i;
+          long = (s .long .0, length-set (d .volumes) (d .pairs) v ∙ s .long .1, s .long .2);
           begun = stays c (d .height) (d .parent) refl refl b;
           priced = none prices cs c refl ∙ (s .priced ∙ ap (λ n. take n (d .prices)) e);
           traded = joined-push volumes cs c ∙ (ap (λ l. l ++ v ∷ []) (s .traded) ∙ sym more);
-          pairs = r; moved = none transactions cs c refl ∙ s .moved; few = s .few
+          pairs = r;
+          moved = none transactions cs c refl ∙ s .moved;
+          few = s .few;
         }
 
     paired : isPair (v .sold) (v .bought) ≡ true
@@ -177,12 +196,14 @@ module _ (d : Draft) (cs : List Cmd) where
       let c = transaction t n in
       let more = take-more-set (d .transactions) (d .count) t (subst (λ n. d .count < n) (sym (s .long .2)) l) in
       record {
-        proper = tt; long = (s .long .0, s .long .1, length-set (d .transactions) (d .count) t ∙ s .long .2);
+        proper = tt;
+        long = (s .long .0, s .long .1, length-set (d .transactions) (d .count) t ∙ s .long .2);
         begun = stays c (d .height) (d .parent) refl refl b;
         priced = none prices cs c refl ∙ (s .priced ∙ ap (λ n. take n (d .prices)) e);
-        traded = none volumes cs c refl ∙ s .traded; pairs = omega (arith, s .pairs, r);
+        traded = none volumes cs c refl ∙ s .traded;
+        pairs = omega (arith, s .pairs, r);
         moved = joined-push transactions cs c ∙ (ap (λ l. l ++ t ∷ []) (s .moved) ∙ sym more);
-        few = omega arith
+        few = omega arith;
       }
 
   says-transaction : (g : Stage) (t : Transaction) (n : List ℕ) → d .count < 1024 → Says g d cs → admits g (transaction t n) ≡ true
@@ -212,3 +233,42 @@ module _ (d : Draft) (cs : List Cmd) where
   says-more g (transaction t n) s m f ne r = says-transaction g t n (omega arith) s m
   says-more g (found x) s m f ne r = absurd (no-grant g x (s .proper) m)
   says-more g end s m f ne r = absurd (ne refl)
+
+  -- there are never more than 56 volumes
+  pub pairs-few : (g : Stage) → Says g d cs → d .pairs ≤ 56
+  pairs-few Start s = omega (arith, s .pairs)
+  pairs-few (Price x) s = omega (arith, s .pairs)
+  pairs-few FirstVolume s = omega (arith, s .pairs)
+  pairs-few (VolumeAbove x y) s = omega (arith, s .pairs, rank-bound x y (s .proper) .1)
+  pairs-few Transactions s = s .pairs
+  pairs-few Grants s = absurd (s .proper)
+
+  room-volume : (g : Stage) (v : Volume) → fit (volume v) ≡ true → Says g d cs → admits g (volume v) ≡ true → d .pairs < 56
+  room-volume Start v f s m = absurd (false≢true m)
+  room-volume (Price x) v f s m = absurd (false≢true m)
+  room-volume FirstVolume v f s m = omega (arith, s .pairs)
+  room-volume (VolumeAbove x y) v f s m =
+      omega (arith, s .pairs, rank-rises x y (v .sold) (v .bought) (s .proper) (paired v f) m, rank-bound (v .sold) (v .bought) (paired v f) .1)
+  room-volume Transactions v f s m = absurd (false≢true m)
+  room-volume Grants v f s m = absurd (false≢true m)
+
+  -- there is room for a command that is in turn and in range
+  pub room : (g : Stage) (c : Cmd) → Says g d cs → admits g c ≡ true → fit c ≡ true → d .count + length (transactions c) ≤ 1024 → Room d c
+  room g (begin h p) s m f r = tt
+  room g (price x p) s m f r = let l : x < 8 = grind (arith, tells) in l
+  room g (volume v) s m f r = room-volume g v f s m
+  room g (transaction t n) s m f r = omega arith
+  room g (found x) s m f r = tt
+  room g end s m f r = tt
+
+one : (c : Cmd) → length (transactions c) ≤ 1
+one (begin h p) = omega arith
+one (price x p) = omega arith
+one (volume v) = omega arith
+one (transaction t n) = omega arith
+one (found x) = omega arith
+one end = omega arith
+
+-- a transaction that has no room comes after 1,024 others
+pub full : (n : ℕ) (c : Cmd) → n ≤ 1024 → 1024 < n + length (transactions c) → (n ≡ 1024) × (length (transactions c) ≡ 1)
+full n c h k = (omega (arith, one c), omega (arith, one c))

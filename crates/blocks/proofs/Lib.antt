@@ -2,3 +2,5 @@ mod Fields
 mod Steps
 mod Drafting
 mod Walking
+mod Fitting
+pub mod Laws

@@ -14,11 +14,13 @@ use Rattle.blocks.specs.Readable.{Stand, InTurn, after, follows, Unended, Endl
 use Rattle.blocks.specs.Readable.Flaw.{missing, unknown, misplaced, unfit}
 use Rattle.blocks.specs.Shown.{shown}
 use Rattle.blocks.specs.declared.command.Command.{Command}
-use Rattle.blocks.specs.declared.command.Command.the-variants.{Begin, Price, Volume, Create, Pay, Place, Cancel, Found, End}
+use Rattle.blocks.specs.declared.command.Command.the-variants as code
 use Rattle.terms.specs.declared.Fault.{Fault}
+use Rattle.terms.specs.declared.Action.{Action}
+use Rattle.terms.specs.declared.Action.the-variants.{Create, Pay, Place, Cancel}
 use Rattle.blocks.specs.Stages.{stepped, taken}
 
-abbrev isEnd : Cmd → Bool
+abbrev pub isEnd : Cmd → Bool
 isEnd (begin h p) = false
 isEnd (price x p) = false
 isEnd (volume v) = false
@@ -87,42 +89,60 @@ pub whole-moves : (bs : List ℕ) (at : ℕ) → whole bs at ≡ true → (0 < w
 whole-moves bs at h =
     let n = widthAt bs at in
     let f : (l m w : ℕ) → (ltb l m && ltb 0 w && leb (l + w) m) ≡ true → (0 < w) × (l + w ≤ m) =
-        λ l m w e. ((grind (arith, tells)), (grind (arith, tells))) in
+    λ l m w e. ((grind (arith, tells)), (grind (arith, tells))) in
     f at (length bs) n h
 
-never : {c : Cmd} → isEnd c ≡ false → c ≡ end → ⊥
+pub never : {c : Cmd} → isEnd c ≡ false → c ≡ end → ⊥
 never {c} f e =
     let z : _≡_ {A = ℕ} 1 0 = ap (λ b. cond b 1 0) (sym (ap isEnd e) ∙ f) in
     omega arith
 
-next-case : (b : Bool) (x y : Cmd) (v w : ℕ) → (x ≡ end → ⊥) → (y ≡ end → 0 < w → w ≡ 1) → cond b x y ≡ end → 0 < cond b v w → cond b v w ≡ 1
-next-case true x y v w n f e h = absurd (n e)
-next-case false x y v w n f e h = f e h
+abbrev wideAction : Action → ℕ
+wideAction (Create a) = 13
+wideAction (Pay r x n) = 38
+wideAction (Place x y l n) = 23
+wideAction (Cancel x y l o) = 19
 
-last-case : (b : Bool) → 0 < cond b 1 0 → _≡_ {A = ℕ} (cond b 1 0) 1
-last-case true h = refl
-last-case false h = absurd (omega arith)
+-- the width of a command
+abbrev pub wide : Cmd → ℕ
+wide (begin h p) = 37
+wide (price x p) = 6
+wide (volume v) = 11
+wide (transaction t m) = wideAction (t .action)
+wide (found g) = 69
+wide end = 1
+
+next-wide : (b : Bool) (x y : Cmd) (v w : ℕ) → v ≡ wide x → (0 < w → w ≡ wide y) → 0 < cond b v w → cond b v w ≡ wide (cond b x y)
+next-wide true x y v w e f h = e
+next-wide false x y v w e f h = f h
+
+last-wide : (b : Bool) → 0 < cond b 1 0 → cond b 1 0 ≡ wide end
+last-wide true h = refl
+last-wide false h = absurd (omega arith)
+
+pub width-is : (bs : List ℕ) (at : ℕ) → whole bs at ≡ true → widthAt bs at ≡ wide (commandAt bs at)
+width-is bs at h =
+    let c = getD bs at 0 in
+    next-wide (eqb c 66) (beginAt bs at) _ 37 _ refl (next-wide (eqb c 80) (priceAt bs at) _ 6 _ refl
+    (next-wide (eqb c 86) (volumeAt bs at) _ 11 _ refl (next-wide (eqb c 65) (createAt bs at) _ 13 _ refl
+    (next-wide (eqb c 84) (payAt bs at) _ 38 _ refl (next-wide (eqb c 79) (placeAt bs at) _ 23 _ refl
+    (next-wide (eqb c 67) (cancelAt bs at) _ 19 _ refl (next-wide (eqb c 71) (foundAt bs at) end 69 (cond (eqb c 69) 1 0) refl
+    (last-wide (eqb c 69))))))))) (whole-moves bs at h .0)
 
 -- the end command has one byte
 pub end-width : (bs : List ℕ) (at : ℕ) → whole bs at ≡ true → commandAt bs at ≡ end → widthAt bs at ≡ 1
-end-width bs at h e =
-    let c = getD bs at 0 in
-    next-case (eqb c 66) (beginAt bs at) _ 37 _ (never refl) (next-case (eqb c 80) (priceAt bs at) _ 6 _ (never refl)
-    (next-case (eqb c 86) (volumeAt bs at) _ 11 _ (never refl) (next-case (eqb c 65) (createAt bs at) _ 13 _ (never refl)
-    (next-case (eqb c 84) (payAt bs at) _ 38 _ (never refl) (next-case (eqb c 79) (placeAt bs at) _ 23 _ (never refl)
-    (next-case (eqb c 67) (cancelAt bs at) _ 19 _ (never refl) (next-case (eqb c 71) (foundAt bs at) end 69 (cond (eqb c 69) 1 0) (never refl)
-    (λ _. last-case (eqb c 69))))))))) e (whole-moves bs at h .0)
+end-width bs at h e = width-is bs at h ∙ ap wide e
 
-pub shown-end : (c : Command) → (c ≡ End → ⊥) → shown c ≡ end → ⊥
-shown-end (Begin h p) n e = never refl e
-shown-end (Price x p) n e = never refl e
-shown-end (Volume x y a) n e = never refl e
-shown-end (Create s q a) n e = never refl e
-shown-end (Pay s q r x a m) n e = never refl e
-shown-end (Place s q x y l a) n e = never refl e
-shown-end (Cancel s q x y l o) n e = never refl e
-shown-end (Found a b) n e = never refl e
-shown-end End n e = n refl
+pub shown-end : (c : Command) → (c ≡ code.End → ⊥) → shown c ≡ end → ⊥
+shown-end (code.Begin h p) n e = never refl e
+shown-end (code.Price x p) n e = never refl e
+shown-end (code.Volume x y a) n e = never refl e
+shown-end (code.Create s q a) n e = never refl e
+shown-end (code.Pay s q r x a m) n e = never refl e
+shown-end (code.Place s q x y l a) n e = never refl e
+shown-end (code.Cancel s q x y l o) n e = never refl e
+shown-end (code.Found a b) n e = never refl e
+shown-end code.End n e = n refl
 
 -- good letters up to a place at which there is no whole command
 pub endless : (bs : List ℕ) (at : ℕ) (f : Fault) (cs : List Cmd) → Stand bs 0 cs at → Unended cs
@@ -130,8 +150,10 @@ pub endless : (bs : List ℕ) (at : ℕ) (f : Fault) (cs : List Cmd) → Stand b
 endless bs at f cs s u e =
     let q = cut-refused bs at _ _ _ e in
     record {
-      commands = cs; stand = subst (Stand bs 0 cs) (sym (q .first)) s; unended = u;
+      commands = cs;
+      stand = subst (Stand bs 0 cs) (sym (q .first)) s;
+      unended = u;
       broken = subst (λ a. whole bs a ≡ false) (sym (q .first)) (q .broken);
       numbered = subst (λ a. f .number ≡ cond (ltb a (length bs) && not (lettered bs a)) 3 2) (sym (q .first)) (q .numbered);
-      second = q .second
+      second = q .second;
     }

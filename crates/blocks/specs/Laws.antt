@@ -15,3 +15,8 @@ pub record Read-one-way : Type 0 where
   pub fault : (opens : Cmd → Bool) (bs : List ℕ) (f g : Fault) → Refused opens bs f → Refused opens bs g → f ≡ g
   pub block-or-fault : (bs : List ℕ) (b : Block) (f : Fault) → Readable bs b → Refused isBegin bs f → ⊥
   pub founding-or-fault : (bs : List ℕ) (gs : List Grant) (f : Fault) → Founds bs gs → Refused isGrant bs f → ⊥
+
+-- All numbers of a readable block and of a readable founding are in range, and the pairs of the volumes rise.
+pub record Known : Type 0 where
+  pub block : (bs : List ℕ) (b : Block) → Readable bs b → fitBlock b ≡ true
+  pub founding : (bs : List ℕ) (gs : List Grant) → Founds bs gs → fitGrants gs ≡ true

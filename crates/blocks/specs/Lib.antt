@@ -3,4 +3,5 @@ pub mod Shown
 pub mod Readable
 pub mod Stages
 pub mod Drafts
+pub mod Decoded
 pub mod Laws

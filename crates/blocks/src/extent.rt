@@ -1,7 +1,6 @@
 // Where the first block or founding of a longer run of bytes ends.
 ghost use Rattle.std.specs.Results.{Cases};
 ghost use Rattle.blocks.specs.Readable.{Ends, Endless};
-
 use crate::command::Command;
 use crate::parser::parse;
 use terms::Fault;
@@ -19,5 +18,9 @@ pub fn length(bytes: &[u8]) -> Result<usize, Fault>
         }
         at = reading.next;
     }
-    Err(Fault { number: 2, first: at as u64, second: 0 })
+    Err(Fault {
+        number: 2,
+        first: at as u64,
+        second: 0,
+    })
 }

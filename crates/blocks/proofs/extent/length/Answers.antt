@@ -23,8 +23,13 @@ returns-in-End c =
     let q = cut-got bs at _ _ (c .in-Continue-reading .ensures tt) in
     let l = q .is ∙ ap shown (c .in-End .is) in
     record {
-      commands = i .0; place = at; stand = i .1; unended = i .2; here = q .here; last = l;
-      upto = sym (q .then) ∙ ap (λ w. at + w) (end-width bs at (q .here) l)
+      commands = i .0;
+      place = at;
+      stand = i .1;
+      unended = i .2;
+      here = q .here;
+      last = l;
+      upto = sym (q .then) ∙ ap (λ w. at + w) (end-width bs at (q .here) l);
     }
 
 pub loop-at-less : need.loop-at-less

@@ -1,0 +1,12 @@
+use Prim.Native.Nat.{_-_, _≤_}
+use mathlib.Core.List.{List}
+use lib.ListN.{length}
+use Rattle.blocks.specs.Format.{Cmd}
+use Rattle.blocks.proofs.Walking.{Walked}
+use Rattle.blocks.proofs.walk.read_block.Given as given
+
+abbrev pub Inv-loop-at : given.InvT-loop-at
+Inv-loop-at l = (length (l .bytes) ≤ 40000) × (cs : List Cmd) × Walked (l .bytes) cs (l .at) (l .stage) (l .draft)
+
+abbrev pub μ-loop-at : given.MeasureT-loop-at
+μ-loop-at l = length (l .bytes) - l .at
