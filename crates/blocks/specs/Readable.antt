@@ -230,6 +230,7 @@ pub record Ends (bs : List ℕ) (n : ℕ) : Type 0 where
   pub here : whole bs place ≡ true
   pub last : commandAt bs place ≡ end
   pub upto : n ≡ place + 1
+  pub within : n ≤ length bs
 
 pub record Endless (bs : List ℕ) (f : Fault) : Type 0 where
   pub commands : List Cmd

@@ -19,5 +19,6 @@ pub use extent::length;
 pub use parser::read;
 pub use parts::ranges_known;
 pub use parts::read_one_way;
+pub use ranges::eight_balances;
 pub use walk::read_block;
 pub use walk::read_founding;

@@ -25,8 +25,8 @@ fn is_price(price: u32) -> bool
     price > 0 && price <= 16_777_215
 }
 
-// The eight balances of a grant.
-pub(crate) fn eight_balances(bytes: &[u8; 64]) -> [u64; 8]
+// The eight balances of a grant, from its bytes.
+pub fn eight_balances(bytes: &[u8; 64]) -> [u64; 8]
     ensures { λ r. ⌜ r ≡ balancesAt (now (bytes .entry)) 0 ⌝ }
 {
     [

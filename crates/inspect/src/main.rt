@@ -1,0 +1,97 @@
+// Shows what a proposer sent: a founding and blocks from standard input, a line for each command, in plain words.
+// Places count from the first byte of their founding or block. Assumes nothing of the input.
+ghost use Prim.Native.Nat.{_≤_};
+ghost use lib.ListN.{length as size};
+
+mod totals;
+
+use blocks::length;
+use blocks::read;
+use blocks::read_block;
+use blocks::read_founding;
+use std::error::AnyError;
+use std::io;
+use std::io::Read;
+use terms::Fault;
+use totals::Totals;
+use totals::TotalsDisplay;
+use wording::Line;
+use wording::LineDisplay;
+use wording::Report;
+use wording::ReportDisplay;
+
+// A line for each command, up to the first that cannot be read.
+fn show_commands(rt: &LibcRuntime, bytes: &[u8]) -> io::Result<()> {
+    let mut at = 0;
+    for _ in 0..bytes.len() {
+        let Ok(reading) = read(bytes, at) else {
+            break;
+        };
+        rt.println(Line { place: at, command: reading.command })?;
+        at = reading.next;
+        if at >= bytes.len() {
+            break;
+        }
+    }
+    Ok(())
+}
+
+fn show_founding(rt: &LibcRuntime, bytes: &[u8]) -> io::Result<()> {
+    match read_founding(bytes) {
+        Ok(founding) => {
+            let totals = Totals::of_founding(founding.grants());
+            rt.println(totals)
+        }
+        Err(fault) => rt.println(Report(fault)),
+    }
+}
+
+fn show_block(rt: &LibcRuntime, bytes: &[u8]) -> io::Result<()> {
+    match read_block(bytes) {
+        Ok(block) => {
+            let totals = Totals::of_block(block.volumes(), block.transactions());
+            rt.println(totals)
+        }
+        Err(fault) => rt.println(Report(fault)),
+    }
+}
+
+// The founding and the blocks in turn, until the bytes are used up or no further end can be found.
+fn show_all(rt: &LibcRuntime, bytes: &[u8]) -> io::Result<()> {
+    let mut start = 0;
+    let mut what = "founding";
+    while start < bytes.len() {
+        let rest = &bytes[start..];
+        match length(rest) {
+            Ok(n) => {
+                println!(rt, "{what} at byte {start} of the input, {n} bytes")?;
+                let part = &rest[0..n];
+                show_commands(rt, part)?;
+                if start == 0 {
+                    show_founding(rt, part)?;
+                } else {
+                    show_block(rt, part)?;
+                }
+                start += n;
+                what = "block";
+            }
+            Err(fault) => {
+                println!(rt, "{what} at byte {start} of the input, without an end")?;
+                show_commands(rt, rest)?;
+                return rt.println(Report(fault));
+            }
+        }
+    }
+    Ok(())
+}
+
+fn run(rt: &LibcRuntime) -> Result<(), AnyError> {
+    let mut input = Vec::new(rt.alloc());
+    rt.stdin().read_to_end(&mut input)?;
+    show_all(rt, input.as_slice())?;
+    Ok(())
+}
+
+fn main(rt: LibcRuntime) -> Result<(), AnyError> {
+    rt.report(run(&rt))
+}
