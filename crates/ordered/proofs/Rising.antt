@@ -120,6 +120,17 @@ module _ {X : Type 0} (key : X → List ℕ) where
   pub under-none : (f : X → ℕ) (xs : List X) (k : List ℕ) → All (λ x. same (key x) k ≡ false) xs → under key f xs k ≡ 0
   under-none f xs k h = sumBy-zero _ xs (all-weaker _ _ (λ x p. cond-false _ (f x) 0 p) xs h)
 
+  -- where no entry has the key, nothing stands under it
+  pub under-absent : (f : X → ℕ) (xs : List X) (k : List ℕ) → under key (λ _. 1) xs k ≡ 0 → under key f xs k ≡ 0
+  under-absent f [] k z = refl
+  under-absent f (x ∷ xs) k z =
+      let one = sumBy-cons (λ y. cond (same (key y) k) 1 0) x xs in
+      let all = sumBy-cons (λ y. cond (same (key y) k) (f y) 0) x xs in
+      elim (cases-bool (same (key x) k)) [
+        | inl e ↦ absurd (omega (arith, one, z, cond-true {A = ℕ} (same (key x) k) 1 0 e))
+        | inr e ↦ omega (arith, all, cond-false (same (key x) k) (f x) 0 e, under-absent f xs k (omega (arith, one, z)))
+      ]
+
   pub gap-apart : (xs : List X) (k : List ℕ) (i : ℕ) → Gap key xs k i → All (λ x. same (key x) k ≡ false) xs
   gap-apart xs k i g =
       subst (All (λ x. same (key x) k ≡ false)) (take-append-drop i xs)
