@@ -3,7 +3,7 @@
 // Assumes nothing.
 ghost use mathlib.Core.Path.{_≡_};
 ghost use mathlib.Core.Bool.{cond, _&&_};
-ghost use mathlib.Core.List.{List, [], _∷_};
+ghost use mathlib.Core.List.{List};
 ghost use Prim.Native.Nat.{ℕ, _+_, _-_, _<_, _≤_, min};
 ghost use lib.Dec.{ltb, leb};
 ghost use lib.ListN.{length, getD, set, take};
@@ -229,24 +229,5 @@ impl<'a, R: Keyed> Table<'a, R> {
         ensures { λ r. ⌜ r ≡ min (sumBy (λ x. R·Amounts .amount x by) (take (now (self .entry) .len) (now (now (self .entry) .slots)))) 18446744073709551615 ⌝ }
     {
         total(self.records(), by)
-    }
-}
-
-// Account numbers are keys, and are records that are their own key.
-pub impl SortKey for u32 as NumberSortKey {
-    ghost rank = { λ n. n ∷ [] };
-
-    fn precedes(self, other: u32) -> bool {
-        self < other
-    }
-}
-
-pub impl Keyed for u32 as NumberKeyed {
-    type Id = u32;
-
-    ghost key = { λ n. n };
-
-    fn key(&self) -> u32 {
-        *self
     }
 }
