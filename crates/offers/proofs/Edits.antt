@@ -1,8 +1,8 @@
 -- An offer book in order, once an offer is put in, written over or taken out: the change that the interface names.
 -- Assumes nothing.
 use mathlib.Core.Path.{_≡_, refl, ap, sym, _∙_, subst}
-use mathlib.Core.Bool.{Bool, true, false, cond, _&&_}
-use Prim.Native.Nat.{ℕ, _+_, _<_, _≤_}
+use mathlib.Core.Bool.{true, false, cond, _&&_}
+use Prim.Native.Nat.{ℕ, _+_, _<_}
 use native.Mathlib.Omega.{arith}
 use lib.Dec.{eqb}
 use Rattle.std.specs.shelf.Lists.{List, [], _∷_, length, getD, set, inserted, removed}
@@ -12,7 +12,7 @@ use Rattle.std.proofs.shelf.Elements.{all-getD, all-set}
 use Rattle.std.proofs.shelf.Tests.{and-parts, and-from, ne-eqb, cond-false}
 use Rattle.terms.specs.declared.Key.{Key}
 use Rattle.terms.specs.declared.Offer.{Offer}
-use Rattle.terms.specs.Order.{place, words, under, same}
+use Rattle.terms.specs.Order.{place, words, same}
 use Rattle.terms.specs.Ranges.{fitKey, isAmount, fitOffer}
 use Rattle.terms.specs.Holdings.{Book, amountAt, soundBook}
 use Rattle.ordered.specs.Places.{Gap}

@@ -1,23 +1,22 @@
 -- An offer taken out and another placed. Assumes nothing.
-use mathlib.Core.Path.{_≡_, refl, ap, sym, _∙_, subst}
-use mathlib.Core.Bool.{Bool, true, false, cond, not, _&&_}
-use mathlib.Core.Logic.{_⊎_, inl, inr}
-use Prim.Native.Nat.{ℕ, _+_, _<_, _≤_}
+use mathlib.Core.Path.{_≡_, ap, sym, _∙_, subst}
+use mathlib.Core.Bool.{true, false, cond, not, _&&_}
+use mathlib.Core.Logic.{inl, inr}
+use Prim.Native.Nat.{ℕ, _<_}
 use native.Mathlib.Omega.{arith}
-use lib.Dec.{eqb, ltb}
-use Rattle.std.specs.shelf.Lists.{length}
+use lib.Dec.{ltb}
 use Rattle.std.specs.Results.{Cases}
 use Rattle.std.specs.declared.result.Result.{Result}
-use Rattle.std.specs.declared.result.Result.the-variants.{Ok, Err}
+use Rattle.std.specs.declared.result.Result.the-variants.{Ok}
 use Rattle.terms.specs.declared.Fault.{Fault}
-use Rattle.std.proofs.shelf.Tests.{cond-true, cond-false, cases-bool, and-from, and-left, and-right, lt-ltb, le-ltb, ltb-false, both-ways}
+use Rattle.std.proofs.shelf.Tests.{cond-true, cond-false, cases-bool, and-from, ltb-false, both-ways}
 use Rattle.terms.specs.declared.Key.{Key}
 use Rattle.terms.specs.Order.{same, words}
 use Rattle.terms.specs.Ranges.{fitKey, isAmount}
 use Rattle.terms.specs.Holdings.{Book, amountAt}
-use Rattle.ordered.proofs.Keys.{same-is, same-refl, same-sym}
+use Rattle.ordered.proofs.Keys.{same-sym}
 use Rattle.offers.specs.Changes.{placeAnswer, taken, replaceAnswer, Placed, Reduced, Replaced}
-use Rattle.offers.proofs.Sound.{SoundBook, key-is}
+use Rattle.offers.proofs.Sound.{SoundBook}
 use Rattle.offers.proofs.Replies.{place-made, replace-ends}
 
 module _ (b c d : Book) (j k : Key) (v : ℕ) where

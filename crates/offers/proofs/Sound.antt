@@ -1,11 +1,10 @@
 -- The tests of order and range of an offer book, as facts, and back. Assumes nothing.
-use mathlib.Core.Path.{_≡_, refl, ap, sym, _∙_}
-use mathlib.Core.Bool.{Bool, true, false, cond, _&&_}
-use Prim.Native.Nat.{ℕ, _+_, _*_, _<_, _≤_}
+use mathlib.Core.Path.{_≡_}
+use mathlib.Core.Bool.{Bool, true, false, cond}
+use Prim.Native.Nat.{ℕ, _*_, _<_, _≤_}
 use native.Mathlib.Omega.{arith}
 use native.Mathlib.Nat.{mul-le-mul-right}
-use lib.Dec.{eqb, ltb, leb}
-use Rattle.std.specs.shelf.Lists.{List, [], _∷_, length, All, sumBy}
+use Rattle.std.specs.shelf.Lists.{[], _∷_, length, All, sumBy}
 use Rattle.std.proofs.shelf.Elements.{all-weaker}
 use Rattle.std.proofs.shelf.Sums.{sumBy-le}
 use Rattle.std.proofs.shelf.Tests.{and-parts, and-from, ltb-true, leb-true, le-leb}

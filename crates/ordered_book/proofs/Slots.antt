@@ -1,6 +1,6 @@
 -- The first len of the slots as an offer book: what a search finds there, and what an edit leaves. Assumes nothing.
-use mathlib.Core.Path.{_≡_, refl, sym, ap, _∙_, subst}
-use mathlib.Core.Bool.{Bool, true, false, cond, _&&_}
+use mathlib.Core.Path.{_≡_, sym, ap, _∙_, subst}
+use mathlib.Core.Bool.{Bool, true, cond, _&&_}
 use Prim.Native.Nat.{ℕ, _+_, _-_, _≤_, _<_}
 use native.Mathlib.Omega.{arith}
 use lib.Dec.{ltb, leb}
@@ -12,7 +12,7 @@ use Rattle.terms.specs.declared.Key.{Key}
 use Rattle.terms.specs.declared.Offer.{Offer}
 use Rattle.terms.specs.Order.{place, words, under}
 use Rattle.terms.specs.Ranges.{fitKey, isAmount, fitOffer}
-use Rattle.terms.specs.Holdings.{Book, amountAt, soundBook}
+use Rattle.terms.specs.Holdings.{amountAt, soundBook}
 use Rattle.ordered.specs.Places.{Gap, At}
 use Rattle.ordered.proofs.Rising.{under-at, under-gap}
 use Rattle.offers.specs.Changes.{Placed, Reduced}

@@ -1,16 +1,15 @@
 -- What is known of a node once its variant is, and what a change of one side makes of the whole. Assumes nothing.
 use mathlib.Core.Path.{_≡_, refl, sym, ap, subst, _∙_}
 use mathlib.Core.Bool.{Bool, true, false, cond, _&&_}
-use mathlib.Core.Logic.{_⊎_, inl, inr}
 use Prim.Native.Nat.{ℕ, max, _+_, _-_, _*_, _/_, _^_, _%_, _<_, _≤_}
 use native.Mathlib.Omega.{arith}
 use native.Mathlib.Decide.{decLt}
-use lib.Dec.{eqb, leb, ltb}
+use lib.Dec.{eqb, ltb}
 use Rattle.std.proofs.shelf.Ways.{tells}
-use Rattle.trie.specs.Trie.{held, under, total, offers, Amount, within, ordered, Ordered, whole, Whole, Parted, Placed, Removed, Lone, forks, Near, Hangs, Next}
+use Rattle.trie.specs.Trie.{held, under, total, offers, Amount, within, ordered, Ordered, whole, Whole, Parted, Placed, Removed, forks, Near, Hangs, Next}
 use Rattle.std.specs.declared.option.Option.{Option}
 use Rattle.std.specs.declared.option.Option.the-variants.{Some, None}
-use Rattle.trie.proofs.Numbers.{block, Fork, fork, same-block, side-left, side-right, in-block, above}
+use Rattle.trie.proofs.Numbers.{block, Fork, fork, same-block, in-block, above}
 use Rattle.std.specs.Changed.{with-value}
 use Rattle.trie.specs.declared.node.Node.{Node, Branch}
 use Rattle.trie.specs.declared.node.Node.the-variants.{Idle, Offer, Branch′}
@@ -165,14 +164,16 @@ first-in (Branch′ bit split sum p l q r) bits lo hi o w =
 
 -- a tree may be spliced in beside a key where they part
 pub parted-up : (r base key : ℕ) (t : Node) → base ≤ key → Fork r base key → Near r base t → Parted r (key / 2 ^ r * 2 ^ r) key t
-parted-up r base key t h f near =
-    ( λ lt. absurd (omega (arith, block key r))
-    , λ _. (block key r .1, widen t _ _ _ _ near (omega (arith, f .next)) (omega (arith, f .next))))
+parted-up r base key t h f near = (
+  λ lt. absurd (omega (arith, block key r)),
+  λ _. (block key r .1, widen t _ _ _ _ near (omega (arith, f .next)) (omega (arith, f .next))),
+)
 
 pub parted-down : (r base key : ℕ) (t : Node) → key ≤ base → Fork r key base → Near r base t → Parted r (base / 2 ^ r * 2 ^ r) key t
-parted-down r base key t h f near =
-    ( λ _. (omega (arith, f .next, block key r), near)
-    , λ ge. absurd (omega (arith, f .next, block key r)))
+parted-down r base key t h f near = (
+  λ _. (omega (arith, f .next, block key r), near),
+  λ ge. absurd (omega (arith, f .next, block key r)),
+)
 
 -- an offer hangs at its own key
 pub hangs-offer : (k a key : ℕ) → Amount a → Hangs k key (Offer k a)
@@ -182,10 +183,12 @@ hangs-offer k a key h j _ _ = (grind (arith, tells, h .0, h .1), grind (arith, t
 pub hangs-branch : {bits bit split sum : ℕ} {t l r : Node} → Sides bits bit split sum t l r → (key : ℕ) → (split / 2 ^ (bit + 1) ≡ key / 2 ^ (bit + 1) → ⊥) → Hangs split key t
 hangs-branch {bits} {bit} {split} {sum} {t} {l} {r} s key ne j same differ =
     let up : bit < j =
-        elim (decLt bit j) [ yes y ↦ y
-                           | no n ↦ absurd
-                             (let e : j + 1 + (bit - j) ≡ bit + 1 = omega (arith, n) in
-                              ne (subst (λ i. split / 2 ^ i ≡ key / 2 ^ i) e (above split key (j + 1) (bit - j) same))) ] in
+    elim (decLt bit j) [
+      | yes y ↦ y
+      | no n ↦ absurd
+          (let e : j + 1 + (bit - j) ≡ bit + 1 = omega (arith, n) in
+          ne (subst (λ i. split / 2 ^ i ≡ key / 2 ^ i) e (above split key (j + 1) (bit - j) same)))
+    ] in
     let e : bit + 1 + (j - (bit + 1)) ≡ j = omega arith in
     let b = subst (λ i. (split / 2 ^ i * 2 ^ i + 2 ^ bit ≤ split) × (split + 2 ^ bit ≤ split / 2 ^ i * 2 ^ i + 2 ^ i)) e (in-block split bit (j - (bit + 1)) (s .middle)) in
     let u : within (split / 2 ^ j * 2 ^ j) (split / 2 ^ j * 2 ^ j + 2 ^ j) l ≡ true = widen l _ _ _ _ (s .left-in) (omega (arith, b)) (omega (arith, b)) in
@@ -206,14 +209,16 @@ split-near {bits} {bit} {split} {sum} {t} {l} {r} s key near =
 
 pub grafted : (r base key top split : ℕ) (t : Node) → split ≡ top / 2 ^ r * 2 ^ r → top ≡ max base key → base / 2 ^ (r + 1) ≡ key / 2 ^ (r + 1) → (base / 2 ^ r ≡ key / 2 ^ r → ⊥) → Near r base t → (split % 2 ^ (r + 1) ≡ 2 ^ r) × Parted r split key t
 grafted r base key top split t cut is same differ near =
-    elim (decLt base key) [ yes y ↦
-                            (let f = fork r base key (omega arith) same differ in
-                             let e : top ≡ key = omega arith in
-                             rw (cut, e) (f .middle, parted-up r base key t (omega arith) f near))
-                          | no n ↦
-                            (let f = fork r key base (omega (arith, n)) (sym same) (λ h. differ (sym h)) in
-                             let e : top ≡ base = omega (arith, n) in
-                             rw (cut, e) (f .middle, parted-down r base key t (omega (arith, n)) f near)) ]
+    elim (decLt base key) [
+      | yes y ↦
+          (let f = fork r base key (omega arith) same differ in
+          let e : top ≡ key = omega arith in
+          rw (cut, e) (f .middle, parted-up r base key t (omega arith) f near))
+      | no n ↦
+          (let f = fork r key base (omega (arith, n)) (sym same) (λ h. differ (sym h)) in
+          let e : top ≡ base = omega (arith, n) in
+          rw (cut, e) (f .middle, parted-down r base key t (omega (arith, n)) f near))
+    ]
 
 -- a key placed on a side is placed on the whole
 pub placed-left : {bits bit split sum : ℕ} {t l r : Node} → Sides bits bit split sum t l r → (key amount : ℕ) (new : Node) → split - 2 ^ bit ≤ key → key < split → Placed bit key amount l new → (p q : Box Node Global) → Placed bits key amount t (Branch bit split (sum + amount) (with-value p new) (with-value q r))
@@ -224,9 +229,9 @@ placed-left {bits} {bit} {split} {sum} {t} {l} {r} s key amount new a b e p q =
       holds = put-left s new key amount b (e .holds);
       sum = omega (arith, s .whole, e .sum);
       keys = λ lo hi w m n.
-        let u : within lo hi l ≡ true = grind (arith, tells, w, s .keys lo hi) in
-        let v : within lo hi r ≡ true = grind (arith, tells, w, s .keys lo hi) in
-        grind (arith, tells, v, e .keys lo hi u m n);
+          let u : within lo hi l ≡ true = grind (arith, tells, w, s .keys lo hi) in
+          let v : within lo hi r ≡ true = grind (arith, tells, w, s .keys lo hi) in
+          grind (arith, tells, v, e .keys lo hi u m n);
     }
 
 pub placed-right : {bits bit split sum : ℕ} {t l r : Node} → Sides bits bit split sum t l r → (key amount : ℕ) (new : Node) → split ≤ key → key < split + 2 ^ bit → Placed bit key amount r new → (p q : Box Node Global) → Placed bits key amount t (Branch bit split (sum + amount) (with-value p l) (with-value q new))
@@ -237,9 +242,9 @@ placed-right {bits} {bit} {split} {sum} {t} {l} {r} s key amount new a b e p q =
       holds = put-right s new key amount a (e .holds);
       sum = omega (arith, s .whole, e .sum);
       keys = λ lo hi w m n.
-        let u : within lo hi l ≡ true = grind (arith, tells, w, s .keys lo hi) in
-        let v : within lo hi r ≡ true = grind (arith, tells, w, s .keys lo hi) in
-        grind (arith, tells, u, e .keys lo hi v m n);
+          let u : within lo hi l ≡ true = grind (arith, tells, w, s .keys lo hi) in
+          let v : within lo hi r ≡ true = grind (arith, tells, w, s .keys lo hi) in
+          grind (arith, tells, u, e .keys lo hi v m n);
     }
 
 pub empty : (t : Node) (x : ℕ) → offers t ≡ 0 → held t x ≡ 0
@@ -260,7 +265,6 @@ to-whole (Branch′ bit split sum p l q r) o w = grind (arith, tells, o, w)
 pub near-whole : (t : Node) (key : ℕ) → key / 2 ^ 102 ≡ 0 → within 0 (2 ^ 102) t ≡ true → Near 102 key t
 near-whole t key e w = widen t 0 (2 ^ 102) _ _ w (omega (arith, e)) (omega (arith, e))
 
-
 pub raise : (t : Node) (i j : ℕ) → i ≤ j → Ordered i t → Ordered j t
 raise Idle i j h o = o
 raise (Offer k a) i j h o = o
@@ -274,7 +278,6 @@ leaf-is (Offer k a) bits key by o f h z =
     let g : a ≡ by = grind (arith, tells, h) in
     cc
 leaf-is (Branch′ bit split sum p l q r) bits key by o f h z = let z : _≡_ {A = Bool} true false = f in absurd (grind (arith, tells, z))
-
 
 pub collapsed-left : {bits bit split sum : ℕ} {t l r : Node} → Sides bits bit split sum t l r → (key by : ℕ) → key < split → l ≡ Offer key by → Removed bits key by t r
 collapsed-left {bits} {bit} {split} {sum} {t} {l} {r} s key by h is =
@@ -304,9 +307,9 @@ removed-left {bits} {bit} {split} {sum} {t} {l} {r} s key by new h e p q =
       holds = put-left s new key 0 h (e .holds);
       sum = omega (arith, s .whole, e .sum);
       keys = λ lo hi w.
-        let u : within lo hi l ≡ true = grind (arith, tells, w, s .keys lo hi) in
-        let v : within lo hi r ≡ true = grind (arith, tells, w, s .keys lo hi) in
-        grind (arith, tells, v, e .keys lo hi u);
+          let u : within lo hi l ≡ true = grind (arith, tells, w, s .keys lo hi) in
+          let v : within lo hi r ≡ true = grind (arith, tells, w, s .keys lo hi) in
+          grind (arith, tells, v, e .keys lo hi u);
     }
 
 pub removed-right : {bits bit split sum : ℕ} {t l r : Node} → Sides bits bit split sum t l r → (key by : ℕ) (new : Node) → split ≤ key → Removed bit key by r new → (p q : Box Node Global) → Removed bits key by t (Branch bit split (sum - by) (with-value p l) (with-value q new))
@@ -317,9 +320,9 @@ removed-right {bits} {bit} {split} {sum} {t} {l} {r} s key by new h e p q =
       holds = put-right s new key 0 h (e .holds);
       sum = omega (arith, s .whole, e .sum);
       keys = λ lo hi w.
-        let u : within lo hi l ≡ true = grind (arith, tells, w, s .keys lo hi) in
-        let v : within lo hi r ≡ true = grind (arith, tells, w, s .keys lo hi) in
-        grind (arith, tells, u, e .keys lo hi v);
+          let u : within lo hi l ≡ true = grind (arith, tells, w, s .keys lo hi) in
+          let v : within lo hi r ≡ true = grind (arith, tells, w, s .keys lo hi) in
+          grind (arith, tells, u, e .keys lo hi v);
     }
 
 pub total-max : (t : Node) (bits : ℕ) → Ordered bits t → total t ≤ offers t * 68719476735

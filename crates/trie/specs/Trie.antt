@@ -47,7 +47,7 @@ abbrev pub ordered : ℕ → Node → Bool
 ordered bits Idle = false
 ordered bits (Offer k a) = ltb 0 a && leb a 68719476735
 ordered bits (Branch′ bit split sum p l q r) =
-  ltb bit bits && eqb (split % 2 ^ (bit + 1)) (2 ^ bit) && eqb sum (total l + total r) && within (split - 2 ^ bit) split l && within split (split + 2 ^ bit) r && ordered bit l && ordered bit r
+    ltb bit bits && eqb (split % 2 ^ (bit + 1)) (2 ^ bit) && eqb sum (total l + total r) && within (split - 2 ^ bit) split l && within split (split + 2 ^ bit) r && ordered bit l && ordered bit r
 
 -- an empty tree, or a good one of keys of 102 bits
 abbrev pub whole : Node → Bool

@@ -21,6 +21,7 @@ mod node;
 const MOST: usize = 131_071;
 // The bits of a key, and the first number that has more.
 const BITS: u32 = 102;
+
 const KEYS: u128 = 5_070_602_400_912_917_605_986_812_821_504;
 // The largest amount, 2^36 - 1.
 const MAX_AMOUNT: u64 = 68_719_476_735;
@@ -49,14 +50,12 @@ impl Trie {
         let capacity = ((n + 1) / 2) as u32;
         let boxes = if capacity == 0 { 0 } else { 2 * (capacity - 1) };
         let spare = node::stock(heap, boxes as usize)?;
-        Ok(
-            Trie {
-                root: Node::Idle,
-                spare,
-                count: 0,
-                capacity,
-            },
-        )
+        Ok(Trie {
+            root: Node::Idle,
+            spare,
+            count: 0,
+            capacity,
+        })
     }
 
     // How many keys stand.

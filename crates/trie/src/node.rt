@@ -29,13 +29,7 @@ pub(crate) fn amount(node: &Node, bits: u32, key: u128) -> u64
 {
     match node {
         Node::Idle => 0,
-        Node::Offer(k, a) => {
-            if *k == key {
-                *a
-            } else {
-                0
-            }
-        }
+        Node::Offer(k, a) => { if *k == key { *a } else { 0 } }
         Node::Branch(bit, split, _, left, right) => {
             if key < *split {
                 amount(left, *bit, key)
@@ -67,13 +61,7 @@ pub(crate) fn sum_under(node: &Node, bits: u32, key: u128) -> u64
 {
     match node {
         Node::Idle => 0,
-        Node::Offer(k, a) => {
-            if *k < key {
-                *a
-            } else {
-                0
-            }
-        }
+        Node::Offer(k, a) => { if *k < key { *a } else { 0 } }
         Node::Branch(bit, split, _sum, left, right) => {
             if key <= *split {
                 sum_under(left, *bit, key)
@@ -129,7 +117,16 @@ fn parting(a: u128, b: u128, bits: u32) -> u32
 }
 
 // Puts a branch in the node's place, with the node on one side and a new offer on the other.
-fn splice(node: &mut Node, bits: u32, bit: u32, split: u128, key: u128, amount: u64, leaf: Box<Node>, fork: Box<Node>)
+fn splice(
+    node: &mut Node,
+    bits: u32,
+    bit: u32,
+    split: u128,
+    key: u128,
+    amount: u64,
+    leaf: Box<Node>,
+    fork: Box<Node>,
+)
     requires ok { ⌜ Ordered bit (now node) ⌝ }
     requires falls { ⌜ bit < bits ⌝ }
     requires middle { ⌜ split % 2 ^ (bit + 1) ≡ 2 ^ bit ⌝ }
@@ -151,7 +148,15 @@ fn splice(node: &mut Node, bits: u32, bit: u32, split: u128, key: u128, amount: 
 }
 
 // The same, at the highest bit at which the new key differs from `base`, a number that is like the keys of the node.
-fn graft(node: &mut Node, bits: u32, base: u128, key: u128, amount: u64, leaf: Box<Node>, fork: Box<Node>)
+fn graft(
+    node: &mut Node,
+    bits: u32,
+    base: u128,
+    key: u128,
+    amount: u64,
+    leaf: Box<Node>,
+    fork: Box<Node>,
+)
     requires hangs { ⌜ Hangs base key (now node) ⌝ }
     requires small { ⌜ bits < 128 ⌝ }
     requires same { ⌜ base / 2 ^ bits ≡ key / 2 ^ bits ⌝ }
@@ -167,7 +172,14 @@ fn graft(node: &mut Node, bits: u32, base: u128, key: u128, amount: u64, leaf: B
 }
 
 // Adds an offer.
-pub(crate) fn place(node: &mut Node, bits: u32, key: u128, amount: u64, leaf: Box<Node>, fork: Box<Node>)
+pub(crate) fn place(
+    node: &mut Node,
+    bits: u32,
+    key: u128,
+    amount: u64,
+    leaf: Box<Node>,
+    fork: Box<Node>,
+)
     requires ok { ⌜ Ordered bits (now node) ⌝ }
     requires near { ⌜ Near bits key (now node) ⌝ }
     requires absent { ⌜ held (now node) key ≡ 0 ⌝ }
@@ -231,10 +243,16 @@ fn collapse(node: &mut Node, bits: u32, key: u128, by: u64) -> Spare
             let mut right = right;
             if key < split {
                 mem::swap(&mut *right, node);
-                Spare { leaf: left, fork: right }
+                Spare {
+                    leaf: left,
+                    fork: right,
+                }
             } else {
                 mem::swap(&mut *left, node);
-                Spare { leaf: right, fork: left }
+                Spare {
+                    leaf: right,
+                    fork: left,
+                }
             }
         }
         _ => unreachable(),
@@ -289,13 +307,7 @@ pub(crate) fn next(node: &Node, bits: u32, key: u128) -> Option<u128>
 {
     match node {
         Node::Idle => None,
-        Node::Offer(k, _) => {
-            if key < *k {
-                Some(*k)
-            } else {
-                None
-            }
-        }
+        Node::Offer(k, _) => { if key < *k { Some(*k) } else { None } }
         Node::Branch(bit, split, _, left, right) => {
             if key < *split {
                 match next(left, *bit, key) {

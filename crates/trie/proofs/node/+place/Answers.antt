@@ -28,23 +28,37 @@ pub place-requires : need.place-requires
 place-requires t c κs =
     let s = sides (c .in-Branch .is) (c .pre .ok) in
     let side = side-left (c .in-Branch .split) (c .args .key) (c .in-Branch .bit) (s .middle) (c .if-key-bit .taken) (c .if-key-split .taken) in
-    rw (c .deref-mut .ensures .value)
-    ( omega (arith, s .falls, c .measured)
-    , ( s .left-ok
-      , ( widen (c .in-Branch .left .value) _ _ _ _ (s .left-in) (omega (arith, side)) (omega (arith, side))
-        , ( sym (s .at-left (c .args .key) (c .if-key-split .taken)) ∙ c .pre .absent
-          , (omega (arith, s .falls, c .pre .small), (omega (arith, s .whole, c .pre .room), c .pre .some))))))
+    rw (c .deref-mut .ensures .value) (
+      omega (arith, s .falls, c .measured),
+      (
+        s .left-ok,
+        (
+          widen (c .in-Branch .left .value) _ _ _ _ (s .left-in) (omega (arith, side)) (omega (arith, side)),
+          (
+            sym (s .at-left (c .args .key) (c .if-key-split .taken)) ∙ c .pre .absent,
+            (omega (arith, s .falls, c .pre .small), (omega (arith, s .whole, c .pre .room), c .pre .some)),
+          ),
+        ),
+      ),
+    )
 
 pub place-requires-else-key-split : need.place-requires-else-key-split
 place-requires-else-key-split t c κs =
     let s = sides (c .in-Branch .is) (c .pre .ok) in
     let side = side-right (c .in-Branch .split) (c .args .key) (c .in-Branch .bit) (s .middle) (c .if-key-bit .taken) (c .if-key-split .left) in
-    rw (c .deref-mut-else-key-split .ensures .value)
-    ( omega (arith, s .falls, c .measured)
-    , ( s .right-ok
-      , ( widen (c .in-Branch .right .value) _ _ _ _ (s .right-in) (omega (arith, side)) (omega (arith, side))
-        , ( sym (s .at-right (c .args .key) (c .if-key-split .left)) ∙ c .pre .absent
-          , (omega (arith, s .falls, c .pre .small), (omega (arith, s .whole, c .pre .room), c .pre .some))))))
+    rw (c .deref-mut-else-key-split .ensures .value) (
+      omega (arith, s .falls, c .measured),
+      (
+        s .right-ok,
+        (
+          widen (c .in-Branch .right .value) _ _ _ _ (s .right-in) (omega (arith, side)) (omega (arith, side)),
+          (
+            sym (s .at-right (c .args .key) (c .if-key-split .left)) ∙ c .pre .absent,
+            (omega (arith, s .falls, c .pre .small), (omega (arith, s .whole, c .pre .room), c .pre .some)),
+          ),
+        ),
+      ),
+    )
 
 pub graft-requires-else-key-bit : need.graft-requires-else-key-bit
 graft-requires-else-key-bit t c κs =

@@ -33,9 +33,10 @@ collapse-requires t c κs =
     let f = rw (c .deref .ensures) at (sym (c .if-is-branch .ensures tt)) in
     record {
       ok = subst (Ordered (c .args .bits)) (c .in-Branch .is) (c .pre .ok);
-      lone =
-        ( λ _. leaf-is (c .in-Branch .left .value) (c .in-Branch .bit) (c .args .key) (c .args .by) (s .left-ok) f (sym (s .at-left (c .args .key) (c .if-key-split .taken)) ∙ c .pre .stands) (c .pre .some)
-        , λ h. absurd (omega (arith, c .if-key-split .taken)));
+      lone = (
+        λ _. leaf-is (c .in-Branch .left .value) (c .in-Branch .bit) (c .args .key) (c .args .by) (s .left-ok) f (sym (s .at-left (c .args .key) (c .if-key-split .taken)) ∙ c .pre .stands) (c .pre .some),
+        λ h. absurd (omega (arith, c .if-key-split .taken)),
+      );
     }
 
 pub collapse-requires-else-is-branch-2 : need.collapse-requires-else-is-branch-2
@@ -44,9 +45,10 @@ collapse-requires-else-is-branch-2 t c κs =
     let f = rw (c .deref-else-key-split .ensures) at (sym (c .if-is-branch-2 .ensures tt)) in
     record {
       ok = subst (Ordered (c .args .bits)) (c .in-Branch .is) (c .pre .ok);
-      lone =
-        ( λ h. absurd (omega (arith, c .if-key-split .left))
-        , λ _. leaf-is (c .in-Branch .right .value) (c .in-Branch .bit) (c .args .key) (c .args .by) (s .right-ok) f (sym (s .at-right (c .args .key) (c .if-key-split .left)) ∙ c .pre .stands) (c .pre .some));
+      lone = (
+        λ h. absurd (omega (arith, c .if-key-split .left)),
+        λ _. leaf-is (c .in-Branch .right .value) (c .in-Branch .bit) (c .args .key) (c .args .by) (s .right-ok) f (sym (s .at-right (c .args .key) (c .if-key-split .left)) ∙ c .pre .stands) (c .pre .some),
+      );
     }
 
 pub returns-then-is-branch : need.returns-then-is-branch
