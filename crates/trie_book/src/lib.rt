@@ -110,7 +110,7 @@ pub impl OfferBook for TrieBook as TrieOffers {
         if self.amount(key) > 0 {
             return Err(refusal(28));
         }
-        if self.trie.count() >= self.trie.capacity() {
+        if self.count() >= self.capacity() {
             return Err(refusal(29));
         }
         if !in_range(key, units) {

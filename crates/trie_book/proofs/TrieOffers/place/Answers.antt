@@ -17,12 +17,12 @@ returns-then-amount-gt0 c =
 pub returns-then-count-capacity : need.returns-then-count-capacity
 returns-then-count-capacity c =
     let t = c .args .self .now .trie in
-    record { answer = ap Err (c .refusal-then-count-capacity .ensures) ∙ place-full (bookOf (t .capacity) (t .root)) (c .args .key) (c .args .units) (omega (arith, c .amount .ensures)) (omega (arith, count-flat (t .root))); after = refl }
+    record { answer = ap Err (c .refusal-then-count-capacity .ensures) ∙ place-full (bookOf (t .capacity) (t .root)) (c .args .key) (c .args .units) (omega (arith, c .amount .ensures)) (omega arith); after = refl }
 
 pub returns-then-not-in-range : need.returns-then-not-in-range
 returns-then-not-in-range c =
     let t = c .args .self .now .trie in
-    record { answer = ap Err (c .refusal-then-not-in-range .ensures) ∙ place-out (bookOf (t .capacity) (t .root)) (c .args .key) (c .args .units) (omega (arith, c .amount .ensures)) (omega (arith, count-flat (t .root))) (sym (c .in-range .ensures) ∙ c .if-not-in-range .taken); after = refl }
+    record { answer = ap Err (c .refusal-then-not-in-range .ensures) ∙ place-out (bookOf (t .capacity) (t .root)) (c .args .key) (c .args .units) (omega (arith, c .amount .ensures)) (omega arith) (sym (c .in-range .ensures) ∙ c .if-not-in-range .taken); after = refl }
 
 pub code-c-requires : need.code-c-requires
 code-c-requires c κs =
@@ -36,7 +36,7 @@ ghost-self c =
     let u = c .place .last .self in
     let e = c .place .ensures in
     let o = places (t .capacity) (u .capacity) (t .root) (u .root) (c .args .key) (c .args .units) (c .code-c .result) (c .place .result) (t .ok) (u .ok) (s .sound) (omega (arith, u .few, u .counted, e .capacity))
-    (c .code-c .ensures .value) (e .capacity) (e .holds) (e .done) (e .count) (sym (c .in-range .ensures) ∙ c .if-not-in-range .left) (omega (arith, c .amount .ensures)) (omega arith) in
+    (c .code-c .ensures .value) (e .capacity) (e .holds) (e .done) (e .count) (sym (c .in-range .ensures) ∙ c .if-not-in-range .left) (omega (arith, c .amount .ensures)) (omega (arith, count-flat (t .root))) in
     (o .1, tt)
 
 pub returns : need.returns
@@ -47,5 +47,5 @@ returns c =
     let e = c .place .ensures in
     let fit = sym (c .in-range .ensures) ∙ c .if-not-in-range .left in
     let o = places (t .capacity) (u .capacity) (t .root) (u .root) (c .args .key) (c .args .units) (c .code-c .result) (c .place .result) (t .ok) (u .ok) (s .sound) (omega (arith, u .few, u .counted, e .capacity))
-    (c .code-c .ensures .value) (e .capacity) (e .holds) (e .done) (e .count) fit (omega (arith, c .amount .ensures)) (omega arith) in
-    record { answer = place-made (bookOf (t .capacity) (t .root)) (c .args .key) (c .args .units) (omega (arith, c .amount .ensures)) (omega (arith, count-flat (t .root))) fit; after = o .0 }
+    (c .code-c .ensures .value) (e .capacity) (e .holds) (e .done) (e .count) fit (omega (arith, c .amount .ensures)) (omega (arith, count-flat (t .root))) in
+    record { answer = place-made (bookOf (t .capacity) (t .root)) (c .args .key) (c .args .units) (omega (arith, c .amount .ensures)) (omega arith) fit; after = o .0 }
