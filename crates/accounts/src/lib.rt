@@ -18,6 +18,9 @@ use terms::Fault;
 // The largest balance, 2^36 - 1.
 pub const MAX_BALANCE: u64 = 68_719_476_735;
 
+// As many accounts as a store may have, however much memory it is lent.
+pub const MAX_ACCOUNTS: usize = 65_536;
+
 pub trait AccountStore {
     ghost ledger: { Self → Ledger };
 

@@ -16,6 +16,7 @@ ghost use Rattle.hashed_store.specs.declared.entry.Entry.{Entry};
 ghost use Rattle.hashed_store.specs.Index.{number, lying, storeOf, laid, taken, Found};
 ghost use Rattle.hashed_store.specs.Probing.{start, turned, seen, has, Probed};
 use accounts::AccountStore;
+use accounts::MAX_ACCOUNTS;
 use accounts::MAX_BALANCE;
 use accounts::refusal;
 use ordered::Amounts;
@@ -26,17 +27,14 @@ use ordered::total;
 use terms::Account;
 use terms::Fault;
 
-pub mod entry;
-pub mod probe;
+mod entry;
+mod probe;
 mod tables;
 
-use entry::Entry;
+pub use entry::Entry;
 use probe::Probe;
 use tables::EntryKeyed;
 use tables::Tables;
-
-// As many accounts as a store may have.
-const MOST: usize = 65_536;
 
 #[derive(Drop)]
 pub struct HashedStore<'a> {
@@ -58,7 +56,7 @@ impl<'a> HashedStore<'a> {
     pub fn new(slots: &'a mut [Account], index: &'a mut [Entry], top: u32) -> Self
         ensures { λ r. ⌜ storeOf (r .top) (now (r .tables .slots)) (take (r .tables .order .len) (now (r .tables .order .slots))) ≡ record { capacity = min (min (length (now (slots .entry))) (length (now (index .entry)) / 3)) 65536; top = top; accounts = [] } ⌝ }
     {
-        let n = slots.len().min(index.len() / 3).min(MOST);
+        let n = slots.len().min(index.len() / 3).min(MAX_ACCOUNTS);
         let (order, rest) = index.split_at_mut(n);
         let buckets = &mut rest[0..2 * n];
         buckets.fill(Entry { number: 0, slot: 0 });

@@ -10,6 +10,7 @@ ghost use denote.Ref.{now};
 ghost use Rattle.terms.specs.Holdings.{soundStore};
 ghost use Rattle.sorted_store.specs.Rows.{storeOf, Found};
 use accounts::AccountStore;
+use accounts::MAX_ACCOUNTS;
 use accounts::MAX_BALANCE;
 use accounts::refusal;
 use ordered::Amounts;
@@ -19,9 +20,6 @@ use ordered::records::AccountKeyed;
 use ordered::records::NumberSortKey;
 use terms::Account;
 use terms::Fault;
-
-// As many accounts as a store may have.
-const MOST: usize = 65_536;
 
 #[derive(Drop)]
 pub struct SortedStore<'a> {
@@ -37,7 +35,7 @@ impl<'a> SortedStore<'a> {
     pub fn new(slots: &'a mut [Account], top: u32) -> Self
         ensures { λ r. ⌜ storeOf (r .table .len) (r .top) (now (r .table .slots)) ≡ record { capacity = min (length (now (slots .entry))) 65536; top = top; accounts = [] } ⌝ }
     {
-        let n = slots.len().min(MOST);
+        let n = slots.len().min(MAX_ACCOUNTS);
         SortedStore {
             table: Table::new(&mut slots[0..n]),
             top,
