@@ -18,6 +18,7 @@ ghost use Rattle.hashed_store.specs.Probing.{start, turned, seen, has, Probed}
 use accounts::AccountStore;
 use accounts::MAX_ACCOUNTS;
 use accounts::MAX_BALANCE;
+use accounts::new_account;
 use accounts::refusal;
 use ordered::Amounts;
 use ordered::Table;
@@ -40,13 +41,20 @@ use tables::Tables;
 pub struct HashedStore<'a> {
     tables: Tables<'a>,
     top: u32,
+    // the order has a place for each slot
     ghost fits: { tables .order .len ≤ length (now (tables .order .slots)) },
     ghost even: { length (now (tables .order .slots)) ≡ length (now (tables .slots)) },
+    // there are at least as many buckets as slots
     ghost roomy: { length (now (tables .slots)) ≤ length (now (tables .buckets)) },
+    // each entry of the order points to one of the first slots, and to an account of its number
     ghost laid: { every (laid (tables .order .len) (now (tables .slots))) (take (tables .order .len) (now (tables .order .slots))) ≡ true },
+    // the taken buckets hold the entries of the order: whatever is summed over them, the sums are equal
     ghost linked: { (f : Entry → ℕ) → sumBy (taken f) (now (tables .buckets)) ≡ sumBy f (take (tables .order .len) (now (tables .order .slots))) },
+    // a probe for a number meets it wherever it stands
     ghost finds: { (n : ℕ) → 0 < n → seen n (turned (start n (length (now (tables .buckets)))) (map number (now (tables .buckets)))) ≡ has n (map number (now (tables .buckets))) },
+    // the first slots hold the accounts that the entries point to, and no others
     ghost sums: { (f : Account → ℕ) → sumBy f (take (tables .order .len) (now (tables .slots))) ≡ sumBy f (map (lying (now (tables .slots))) (take (tables .order .len) (now (tables .order .slots)))) },
+    // these accounts are in order and in range
     ghost sound: { soundStore (storeOf top (now (tables .slots)) (take (tables .order .len) (now (tables .order .slots)))) ≡ true },
 }
 
@@ -148,21 +156,11 @@ pub impl<'a> AccountStore for HashedStore<'a> as HashedAccounts {
                 match self.tables.order.search(number) {
                     Ok(_) => unreachable(),
                     Err(i) => {
-                        let account = Account {
+                        let entry = Entry {
                             number,
-                            floor: 0,
-                            balances: [0; 8],
+                            slot: n as u32,
                         };
-                        self.tables.enter(
-                            n,
-                            account,
-                            j,
-                            i,
-                            Entry {
-                                number,
-                                slot: n as u32,
-                            },
-                        );
+                        self.tables.enter(n, new_account(number), j, i, entry);
                         Ok(())
                     }
                 }

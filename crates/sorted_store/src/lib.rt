@@ -12,6 +12,7 @@ ghost use Rattle.sorted_store.specs.Rows.{storeOf, Found};
 use accounts::AccountStore;
 use accounts::MAX_ACCOUNTS;
 use accounts::MAX_BALANCE;
+use accounts::new_account;
 use accounts::refusal;
 use ordered::Amounts;
 use ordered::Table;
@@ -25,6 +26,7 @@ use terms::Fault;
 pub struct SortedStore<'a> {
     table: Table<'a, Account>,
     top: u32,
+    // no more accounts than slots, and those in the first slots are in order and in range
     ghost fits: { table .len ≤ length (now (table .slots)) },
     ghost sound: { soundStore (storeOf (table .len) top (now (table .slots))) ≡ true },
 }
@@ -110,14 +112,7 @@ pub impl<'a> AccountStore for SortedStore<'a> as SortedAccounts {
                 if self.table.len() >= self.table.capacity() {
                     Err(refusal(29))
                 } else {
-                    self.table.insert(
-                        i,
-                        Account {
-                            number,
-                            floor: 0,
-                            balances: [0; 8],
-                        },
-                    );
+                    self.table.insert(i, new_account(number));
                     Ok(())
                 }
             }
