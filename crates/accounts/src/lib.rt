@@ -5,7 +5,7 @@ ghost use mathlib.Core.Path.{_≡_};
 ghost use mathlib.Core.Bool.{cond};
 ghost use mathlib.Core.List.{List, [], _∷_};
 ghost use Prim.Native.Nat.{ℕ, _+_, _<_, _≤_};
-ghost use lib.ListN.{length};
+ghost use lib.ListN.{length, replicate};
 ghost use Rattle.std.specs.Results.{Cases};
 ghost use Rattle.terms.specs.Order.{name, above};
 ghost use Rattle.terms.specs.Ranges.{every, isBalance};
@@ -13,10 +13,14 @@ ghost use Rattle.terms.specs.Holdings.{standing, floorAt, balanceAt, freeOf};
 ghost use Rattle.ordered.specs.Places.{told};
 ghost use Rattle.accounts.specs.Meaning.{Ledger};
 ghost use Rattle.accounts.specs.Changes.{openAnswer, balanceAnswer, floorAnswer, grantAnswer, Opened, BalanceSet, FloorSet, Granted};
+use terms::Account;
 use terms::Fault;
 
 // The largest balance, 2^36 - 1.
 pub const MAX_BALANCE: u64 = 68_719_476_735;
+
+// As many accounts as a store may have, however much memory it is lent.
+pub const MAX_ACCOUNTS: usize = 65_536;
 
 pub trait AccountStore {
     ghost ledger: { Self → Ledger };
@@ -76,6 +80,17 @@ pub fn refusal(number: u8) -> Fault
         number,
         first: 0,
         second: 0,
+    }
+}
+
+// An account as it is opened: its floor and its balances are 0.
+pub fn new_account(number: u32) -> Account
+    ensures { λ r. ⌜ r ≡ record { number = number; floor = 0; balances = replicate 8 0 } ⌝ }
+{
+    Account {
+        number,
+        floor: 0,
+        balances: [0; 8],
     }
 }
 

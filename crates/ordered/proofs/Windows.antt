@@ -19,6 +19,10 @@ pub record Window {X : Type 0} (key : X → List ℕ) (xs : List X) (k : List �
   pub below : All (λ y. lower (key y) k ≡ true) (take low xs)
   pub above : All (λ y. lower (key y) k ≡ false) (drop high xs)
 
+-- a test of what was read, as a test of what stands there
+pub told-by : {A : Type 0} (f : A → Bool) (x y : A) (b : Bool) → x ≡ y → b ≡ f x → f y ≡ b
+told-by f x y b e q = ap f (sym e) ∙ sym q
+
 -- y lies above x, and x does not lie below k: nor does y
 not-below : (x y k : List ℕ) → lower x y ≡ true → lower x k ≡ false → lower y k ≡ false
 not-below x y k p q = elim (cases-bool (lower y k)) [ inl t ↦ absurd (both-ways (lower x k) q (transitive x y k p t)) | inr t ↦ t ]

@@ -107,6 +107,7 @@ fn replace<R: Copy>(slots: &mut [R], len: usize, at: usize, item: R)
     slots[at] = item;
 }
 
+// An ordered table: its records are those in the first `len` slots.
 #[derive(Drop)]
 pub struct Table<'a, R: Keyed> {
     slots: &'a mut [R],

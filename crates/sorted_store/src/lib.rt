@@ -10,7 +10,9 @@ ghost use denote.Ref.{now};
 ghost use Rattle.terms.specs.Holdings.{soundStore};
 ghost use Rattle.sorted_store.specs.Rows.{storeOf, Found};
 use accounts::AccountStore;
+use accounts::MAX_ACCOUNTS;
 use accounts::MAX_BALANCE;
+use accounts::new_account;
 use accounts::refusal;
 use ordered::Amounts;
 use ordered::Table;
@@ -20,13 +22,11 @@ use ordered::records::NumberSortKey;
 use terms::Account;
 use terms::Fault;
 
-// As many accounts as a store may have.
-const MOST: usize = 65_536;
-
 #[derive(Drop)]
 pub struct SortedStore<'a> {
     table: Table<'a, Account>,
     top: u32,
+    // no more accounts than slots, and those in the first slots are in order and in range
     ghost fits: { table .len ≤ length (now (table .slots)) },
     ghost sound: { soundStore (storeOf (table .len) top (now (table .slots))) ≡ true },
 }
@@ -37,7 +37,7 @@ impl<'a> SortedStore<'a> {
     pub fn new(slots: &'a mut [Account], top: u32) -> Self
         ensures { λ r. ⌜ storeOf (r .table .len) (r .top) (now (r .table .slots)) ≡ record { capacity = min (length (now (slots .entry))) 65536; top = top; accounts = [] } ⌝ }
     {
-        let n = slots.len().min(MOST);
+        let n = slots.len().min(MAX_ACCOUNTS);
         SortedStore {
             table: Table::new(&mut slots[0..n]),
             top,
@@ -112,14 +112,7 @@ pub impl<'a> AccountStore for SortedStore<'a> as SortedAccounts {
                 if self.table.len() >= self.table.capacity() {
                     Err(refusal(29))
                 } else {
-                    self.table.insert(
-                        i,
-                        Account {
-                            number,
-                            floor: 0,
-                            balances: [0; 8],
-                        },
-                    );
+                    self.table.insert(i, new_account(number));
                     Ok(())
                 }
             }

@@ -5,7 +5,7 @@ use mathlib.Core.List.{List}
 use lib.ListN.{length}
 use native.Mathlib.Omega.{arith}
 use Rattle.terms.specs.Order.{lower}
-use Rattle.ordered.proofs.Windows.{window-start, window-low, window-high, window-cut}
+use Rattle.ordered.proofs.Windows.{told-by, window-start, window-low, window-high, window-cut}
 use Rattle.ordered.proofs.table.lower_bound.Needs as need
 
 pub loop-low-holds : need.loop-low-holds
@@ -16,7 +16,7 @@ loop-low-again-then-precedes g c =
     let rank : g .R .Denot → List ℕ = λ x. g .Id·SortKey .rank (g .R·Keyed .key x) in
     let mid : ℕ = c .loop-low .low + (c .loop-low .high - c .loop-low .low) / 2 in
     let less : lower (rank (c .index-records-mid .result)) (g .Id·SortKey .rank (c .args .key)) ≡ true =
-    ap (λ k. lower (g .Id·SortKey .rank k) (g .Id·SortKey .rank (c .args .key))) (sym (c .key .ensures)) ∙ sym (c .if-precedes .ensures tt) in (
+    told-by (λ k. lower (g .Id·SortKey .rank k) (g .Id·SortKey .rank (c .args .key))) (c .key .result) (g .R·Keyed .key (c .index-records-mid .result)) true (c .key .ensures) (c .if-precedes .ensures tt) in (
       omega arith,
       c .loop-low .inv .1,
       λ up. window-low rank (c .args .records .now) _ up (c .loop-low .low) _ mid (c .index-records-mid .result) (c .loop-low .inv .2 up) (omega arith) (c .index-records-mid .is) less,
@@ -27,7 +27,7 @@ loop-low-again g c =
     let rank : g .R .Denot → List ℕ = λ x. g .Id·SortKey .rank (g .R·Keyed .key x) in
     let mid : ℕ = c .loop-low .low + (c .loop-low .high - c .loop-low .low) / 2 in
     let less : lower (rank (c .index-records-mid .result)) (g .Id·SortKey .rank (c .args .key)) ≡ false =
-    ap (λ k. lower (g .Id·SortKey .rank k) (g .Id·SortKey .rank (c .args .key))) (sym (c .key .ensures)) ∙ sym (c .if-precedes .ensures tt) in (
+    told-by (λ k. lower (g .Id·SortKey .rank k) (g .Id·SortKey .rank (c .args .key))) (c .key .result) (g .R·Keyed .key (c .index-records-mid .result)) false (c .key .ensures) (c .if-precedes .ensures tt) in (
       omega arith,
       omega arith,
       λ up. window-high rank (c .args .records .now) _ up _ (c .loop-low .high) mid (c .index-records-mid .result) (c .loop-low .inv .2 up) (omega arith) (c .index-records-mid .is) less,
