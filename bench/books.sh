@@ -1,0 +1,9 @@
+#!/bin/sh
+# Times the offer books beside Rust's BTreeMap. Needs rt and rustc. Writes to target/bench/ alone.
+set -eu
+cd "$(dirname "$0")/.."
+rt staticlib bench_books >/dev/null
+mkdir -p target/bench
+rustc -O -C target-cpu=native --edition 2024 -o target/bench/books bench/books.rs \
+    -L target/staticlib -l static=bench_books
+exec target/bench/books
