@@ -79,9 +79,10 @@ fn time(run: &dyn Fn() -> u64) -> f64 {
         .fold(f64::INFINITY, f64::min)
 }
 
-fn line(name: &str, count: u32, scattered: bool, run: &dyn Fn(u32, u32, u32, u32) -> u64) {
+// `reaches` is how many sums are asked for: fewer where each looks at many offers
+fn line(name: &str, count: u32, scattered: bool, reaches: u32, run: &dyn Fn(u32, u32, u32, u32) -> u64) {
     let small = count <= 256;
-    let (repeat, lookups, walks, reaches) = if small { (200, 1_000_000, 2_000, 100_000) } else { (1, 2_000_000, 20, 2_000) };
+    let (repeat, lookups, walks) = if small { (200, 1_000_000, 2_000) } else { (1, 2_000_000, 20) };
     let placed = time(&|| run(repeat, 0, 0, 0)) / repeat as f64;
     let looked = time(&|| run(1, lookups, 0, 0)) - placed;
     let walked = time(&|| run(1, 0, walks, 0)) - placed;
@@ -101,13 +102,13 @@ fn all() {
     for count in [256u32, 65_536] {
         for scattered in [false, true] {
             if count == 256 {
-                line("ordered", count, scattered, &|r, l, w, u| unsafe { ordered_small(r, l, w, u, scattered) });
+                line("ordered", count, scattered, 200_000, &|r, l, w, u| unsafe { ordered_small(r, l, w, u, scattered) });
             } else {
-                line("ordered", count, scattered, &|r, l, w, u| unsafe { ordered_large(r, l, w, u, scattered) });
+                line("ordered", count, scattered, 20_000, &|r, l, w, u| unsafe { ordered_large(r, l, w, u, scattered) });
             }
             let nodes = 2 * count as usize - 1;
-            line("trie", count, scattered, &|r, l, w, u| unsafe { trie_of(nodes, r, l, w, u, scattered) });
-            line("BTreeMap", count, scattered, &|r, l, w, u| map(count, r, l, w, u, scattered));
+            line("trie", count, scattered, 2_000_000, &|r, l, w, u| unsafe { trie_of(nodes, r, l, w, u, scattered) });
+            line("BTreeMap", count, scattered, 20_000, &|r, l, w, u| map(count, r, l, w, u, scattered));
         }
     }
 }
