@@ -1,4 +1,6 @@
 // What a store or a book answers to a command, put so that two makes can be compared. Assumes nothing.
+ghost use mathlib.Core.Path.{_≡_};
+ghost use Rattle.stores.specs.Answers.{outcome, accountAnswer, OfferAnswer};
 use crate::ask::AccountAsk;
 use crate::ask::OfferAsk;
 use crate::ask::Shown;
@@ -23,14 +25,18 @@ pub enum Answer {
     Nothing,
 }
 
-fn outcome(r: Result<(), Fault>) -> Answer {
+fn outcome(r: Result<(), Fault>) -> Answer
+    ensures { λ a. ⌜ a ≡ outcome r ⌝ }
+{
     match r {
         Ok(_) => Answer::Done,
         Err(fault) => Answer::Refused(fault),
     }
 }
 
-pub fn ask_accounts<S: AccountStore>(store: &mut S, ask: AccountAsk) -> Answer {
+pub fn ask_accounts<S: AccountStore>(store: &mut S, ask: AccountAsk) -> Answer
+    ensures { λ r. ⌜ r ≡ accountAnswer (S·AccountStore .ledger (now (store .entry)) .store) ask ⌝ }
+{
     match ask {
         AccountAsk::Open { number } => outcome(store.open(number)),
         AccountAsk::OpenWith { number, balances } => outcome(open_with(store, number, balances)),
@@ -54,7 +60,9 @@ pub fn ask_accounts<S: AccountStore>(store: &mut S, ask: AccountAsk) -> Answer {
     }
 }
 
-pub fn ask_offers<B: OfferBook>(book: &mut B, ask: OfferAsk) -> Answer {
+pub fn ask_offers<B: OfferBook>(book: &mut B, ask: OfferAsk) -> Answer
+    ensures { λ r. ⌜ OfferAnswer (B·OfferBook .orders (now (book .entry)) .book) ask r ⌝ }
+{
     match ask {
         OfferAsk::Place { key, units } => outcome(book.place(key, units)),
         OfferAsk::Reduce { key, units } => outcome(book.reduce(key, units)),

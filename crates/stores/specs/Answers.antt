@@ -1,0 +1,63 @@
+-- What an account store and an offer book answer to each command of the script. Assumes nothing.
+use mathlib.Core.Path.{_≡_}
+use Prim.Native.Nat.{ℕ}
+use lib.Dec.{ltb}
+use Rattle.std.specs.shelf.Lists.{List, [], _∷_, length}
+use Rattle.std.specs.declared.result.Result.{Result}
+use Rattle.std.specs.declared.result.Result.the-variants.{Ok, Err}
+use Rattle.terms.specs.declared.Fault.{Fault}
+use Rattle.terms.specs.declared.Key.{Key}
+use Rattle.terms.specs.Order.{name, place, words, above}
+use Rattle.terms.specs.Holdings.{Store, Book, standing, floorAt, balanceAt, freeOf, amountAt, offeredOf, upTo}
+use Rattle.accounts.specs.Changes.{openAnswer, grantAnswer, balanceAnswer, floorAnswer}
+use Rattle.offers.specs.Changes.{placeAnswer, reduceAnswer, replaceAnswer}
+use Rattle.stores.specs.declared.answer.Answer.{Answer}
+use Rattle.stores.specs.declared.answer.Answer.the-variants.{Done, Refused, Flag, Number, Offer, Nothing}
+use Rattle.stores.specs.declared.ask.AccountAsk.{AccountAsk}
+use Rattle.stores.specs.declared.ask.AccountAsk.the-variants as account
+use Rattle.stores.specs.declared.ask.OfferAsk.{OfferAsk}
+use Rattle.stores.specs.declared.ask.OfferAsk.the-variants as offer
+
+abbrev pub outcome : Result (Unit {0}) Fault → Answer
+outcome (Ok x) = Done
+outcome (Err f) = Refused f
+
+-- the lowest number above, or nothing
+abbrev pub numberFound : List ℕ → Answer
+numberFound [] = Nothing
+numberFound (n ∷ ns) = Number n
+
+abbrev pub accountAnswer : Store → AccountAsk → Answer
+accountAnswer s (account.Open n) = outcome (openAnswer s n)
+accountAnswer s (account.OpenWith n bs) = outcome (grantAnswer s n bs)
+accountAnswer s (account.SetBalance n x v) = outcome (balanceAnswer s n x v)
+accountAnswer s (account.SetFloor n v) = outcome (floorAnswer s n)
+accountAnswer s (account.Stands n) = Flag (ltb 0 (standing s n))
+accountAnswer s (account.Balance n x) = Number (balanceAt s n x)
+accountAnswer s (account.Floor n) = Number (floorAt s n)
+accountAnswer s (account.Free x) = Number (freeOf s x)
+accountAnswer s account.Count = Number (length (s .accounts))
+accountAnswer s account.Capacity = Number (s .capacity)
+accountAnswer s account.Top = Number (s .top)
+accountAnswer s (account.Next n) = numberFound (above name (s .accounts) (n ∷ []))
+
+-- the numbers of a key that is found, none where there is none
+abbrev pub keyFound : Answer → List ℕ
+keyFound Done = []
+keyFound (Refused f) = []
+keyFound (Flag f) = []
+keyFound (Number n) = []
+keyFound (Offer j) = words j
+keyFound Nothing = []
+
+-- an offer book's answer; a key that is found is told by the numbers that it is compared by
+abbrev pub OfferAnswer : Book → OfferAsk → Answer → Type 0
+OfferAnswer b (offer.Place k v) r = r ≡ outcome (placeAnswer b k v)
+OfferAnswer b (offer.Reduce k v) r = r ≡ outcome (reduceAnswer b k v)
+OfferAnswer b (offer.Replace j k v) r = r ≡ outcome (replaceAnswer b j k v)
+OfferAnswer b (offer.Amount k) r = r ≡ Number (amountAt (b .offers) k)
+OfferAnswer b (offer.Offered x) r = r ≡ Number (offeredOf b x)
+OfferAnswer b (offer.UpTo x y l) r = r ≡ Number (upTo b x y l)
+OfferAnswer b offer.Count r = r ≡ Number (length (b .offers))
+OfferAnswer b offer.Capacity r = r ≡ Number (b .capacity)
+OfferAnswer b (offer.Next k) r = keyFound r ≡ above place (b .offers) (words k)
