@@ -9,8 +9,9 @@ use Rattle.terms.specs.declared.Fault.{Fault}
 use Rattle.terms.specs.declared.Key.{Key}
 use Rattle.terms.specs.Order.{name, place, words, above}
 use Rattle.terms.specs.Holdings.{Store, Book, standing, floorAt, balanceAt, freeOf, amountAt, offeredOf, upTo}
-use Rattle.accounts.specs.Changes.{openAnswer, grantAnswer, balanceAnswer, floorAnswer}
-use Rattle.offers.specs.Changes.{placeAnswer, reduceAnswer, replaceAnswer}
+use Rattle.std.specs.Results.{Cases}
+use Rattle.accounts.specs.Changes.{openAnswer, grantAnswer, balanceAnswer, floorAnswer, Opened, Granted, BalanceSet, FloorSet}
+use Rattle.offers.specs.Changes.{placeAnswer, reduceAnswer, replaceAnswer, Placed, Reduced, Replaced}
 use Rattle.stores.specs.declared.answer.Answer.{Answer}
 use Rattle.stores.specs.declared.answer.Answer.the-variants.{Done, Refused, Flag, Number, Offer, Nothing}
 use Rattle.stores.specs.declared.ask.AccountAsk.{AccountAsk}
@@ -61,3 +62,30 @@ OfferAnswer b (offer.UpTo x y l) r = r ≡ Number (upTo b x y l)
 OfferAnswer b offer.Count r = r ≡ Number (length (b .offers))
 OfferAnswer b offer.Capacity r = r ≡ Number (b .capacity)
 OfferAnswer b (offer.Next k) r = keyFound r ≡ above place (b .offers) (words k)
+
+-- What is left: a change that is made leaves what it says, and all else leaves the store or book as it was.
+
+abbrev pub accountsLeft : Store → AccountAsk → Store → Type 0
+accountsLeft s (account.Open n) t = Cases (openAnswer s n) (λ _. Opened s n t) (λ _. t ≡ s)
+accountsLeft s (account.OpenWith n bs) t = Cases (grantAnswer s n bs) (λ _. Granted s n bs t) (λ _. t ≡ s)
+accountsLeft s (account.SetBalance n x v) t = Cases (balanceAnswer s n x v) (λ _. BalanceSet s n x v t) (λ _. t ≡ s)
+accountsLeft s (account.SetFloor n v) t = Cases (floorAnswer s n) (λ _. FloorSet s n v t) (λ _. t ≡ s)
+accountsLeft s (account.Stands n) t = t ≡ s
+accountsLeft s (account.Balance n x) t = t ≡ s
+accountsLeft s (account.Floor n) t = t ≡ s
+accountsLeft s (account.Free x) t = t ≡ s
+accountsLeft s account.Count t = t ≡ s
+accountsLeft s account.Capacity t = t ≡ s
+accountsLeft s account.Top t = t ≡ s
+accountsLeft s (account.Next n) t = t ≡ s
+
+abbrev pub offersLeft : Book → OfferAsk → Book → Type 0
+offersLeft b (offer.Place k v) c = Cases (placeAnswer b k v) (λ _. Placed b k v c) (λ _. c ≡ b)
+offersLeft b (offer.Reduce k v) c = Cases (reduceAnswer b k v) (λ _. Reduced b k v c) (λ _. c ≡ b)
+offersLeft b (offer.Replace j k v) c = Cases (replaceAnswer b j k v) (λ _. Replaced b j k v c) (λ _. c ≡ b)
+offersLeft b (offer.Amount k) c = c ≡ b
+offersLeft b (offer.Offered x) c = c ≡ b
+offersLeft b (offer.UpTo x y l) c = c ≡ b
+offersLeft b offer.Count c = c ≡ b
+offersLeft b offer.Capacity c = c ≡ b
+offersLeft b (offer.Next k) c = c ≡ b

@@ -1,6 +1,6 @@
 // What a store or a book answers to a command, put so that two makes can be compared. Assumes nothing.
 ghost use mathlib.Core.Path.{_≡_};
-ghost use Rattle.stores.specs.Answers.{outcome, accountAnswer, OfferAnswer};
+ghost use Rattle.stores.specs.Answers.{outcome, accountAnswer, accountsLeft, OfferAnswer, offersLeft};
 use crate::ask::AccountAsk;
 use crate::ask::OfferAsk;
 use crate::ask::Shown;
@@ -35,7 +35,8 @@ fn outcome(r: Result<(), Fault>) -> Answer
 }
 
 pub fn ask_accounts<S: AccountStore>(store: &mut S, ask: AccountAsk) -> Answer
-    ensures { λ r. ⌜ r ≡ accountAnswer (S·AccountStore .ledger (now (store .entry)) .store) ask ⌝ }
+    ensures answer { λ r. ⌜ r ≡ accountAnswer (S·AccountStore .ledger (now (store .entry)) .store) ask ⌝ }
+    ensures after { λ _. ⌜ accountsLeft (S·AccountStore .ledger (now (store .entry)) .store) ask (S·AccountStore .ledger (now (store .exit)) .store) ⌝ }
 {
     match ask {
         AccountAsk::Open { number } => outcome(store.open(number)),
@@ -61,7 +62,8 @@ pub fn ask_accounts<S: AccountStore>(store: &mut S, ask: AccountAsk) -> Answer
 }
 
 pub fn ask_offers<B: OfferBook>(book: &mut B, ask: OfferAsk) -> Answer
-    ensures { λ r. ⌜ OfferAnswer (B·OfferBook .orders (now (book .entry)) .book) ask r ⌝ }
+    ensures answer { λ r. ⌜ OfferAnswer (B·OfferBook .orders (now (book .entry)) .book) ask r ⌝ }
+    ensures after { λ _. ⌜ offersLeft (B·OfferBook .orders (now (book .entry)) .book) ask (B·OfferBook .orders (now (book .exit)) .book) ⌝ }
 {
     match ask {
         OfferAsk::Place { key, units } => outcome(book.place(key, units)),

@@ -1,4 +1,10 @@
 // The numbers that follow the first word of a line. Assumes nothing.
+ghost use mathlib.Core.Path.{_≡_};
+ghost use mathlib.Core.Bool.{cond, _&&_};
+ghost use Prim.Native.Nat.{ℕ, _+_};
+ghost use lib.Dec.{eqb, ltb, leb};
+ghost use lib.ListN.{getD, set};
+ghost use Rattle.std.specs.declared.option.Option.the-variants.{Some, None};
 use terms::Key;
 
 // As many operands as a command may have.
@@ -11,7 +17,9 @@ pub struct Operands {
 }
 
 impl Operands {
-    pub fn new() -> Operands {
+    pub fn new() -> Operands
+        ensures { λ r. ⌜ r .count ≡ 0 ⌝ }
+    {
         Operands {
             numbers: [0; 11],
             count: 0,
@@ -19,7 +27,11 @@ impl Operands {
     }
 
     // One more; false where there is no room for it.
-    pub fn push(&mut self, number: u64) -> bool {
+    pub fn push(&mut self, number: u64) -> bool
+        ensures done { λ r. ⌜ r ≡ ltb (now (self .entry) .count) 11 ⌝ }
+        ensures count { λ r. ⌜ now (self .exit) .count ≡ cond r (now (self .entry) .count + 1) (now (self .entry) .count) ⌝ }
+        ensures numbers { λ r. ⌜ now (self .exit) .numbers ≡ cond r (set (now (self .entry) .numbers) (now (self .entry) .count) number) (now (self .entry) .numbers) ⌝ }
+    {
         let n = self.count;
         if n >= MOST {
             return false;
@@ -30,12 +42,16 @@ impl Operands {
     }
 
     // Whether there are exactly so many.
-    pub fn only(&self, count: usize) -> Option<()> {
+    pub fn only(&self, count: usize) -> Option<()>
+        ensures { λ r. ⌜ r ≡ cond (eqb (now (self .entry) .count) count) (Some tt) None ⌝ }
+    {
         if self.count == count { Some(()) } else { None }
     }
 
     // The one at a place, of 64 bits, 32 bits or 8 bits.
-    pub fn long(&self, at: usize) -> Option<u64> {
+    pub fn long(&self, at: usize) -> Option<u64>
+        ensures { λ r. ⌜ r ≡ cond (ltb at 11) (Some (getD (now (self .entry) .numbers) at 0)) None ⌝ }
+    {
         if at < MOST {
             Some(self.numbers[at])
         } else {
@@ -43,7 +59,9 @@ impl Operands {
         }
     }
 
-    pub fn word(&self, at: usize) -> Option<u32> {
+    pub fn word(&self, at: usize) -> Option<u32>
+        ensures { λ r. ⌜ r ≡ cond (ltb at 11 && leb (getD (now (self .entry) .numbers) at 0) 4294967295) (Some (getD (now (self .entry) .numbers) at 0)) None ⌝ }
+    {
         let n = self.long(at)?;
         if n <= 4_294_967_295 {
             Some(n as u32)
@@ -52,7 +70,9 @@ impl Operands {
         }
     }
 
-    pub fn byte(&self, at: usize) -> Option<u8> {
+    pub fn byte(&self, at: usize) -> Option<u8>
+        ensures { λ r. ⌜ r ≡ cond (ltb at 11 && leb (getD (now (self .entry) .numbers) at 0) 255) (Some (getD (now (self .entry) .numbers) at 0)) None ⌝ }
+    {
         let n = self.long(at)?;
         if n <= 255 { Some(n as u8) } else { None }
     }
