@@ -102,7 +102,13 @@ fn reach<B: OfferBook>(book: &B, count: u32, times: u32, scattered: bool) -> u64
     sum
 }
 
-fn exercise<B: OfferBook>(book: &mut B, lookups: u32, walks: u32, reaches: u32, scattered: bool) -> u64 {
+fn exercise<B: OfferBook>(
+    book: &mut B,
+    lookups: u32,
+    walks: u32,
+    reaches: u32,
+    scattered: bool,
+) -> u64 {
     let count = book.capacity();
     place_all(book, count, scattered)
         .wrapping_add(look_up(book, count, lookups, scattered))
@@ -110,7 +116,14 @@ fn exercise<B: OfferBook>(book: &mut B, lookups: u32, walks: u32, reaches: u32, 
         .wrapping_add(reach(book, count, reaches, scattered))
 }
 
-fn ordered(slots: &mut [Offer], repeat: u32, lookups: u32, walks: u32, reaches: u32, scattered: bool) -> u64 {
+fn ordered(
+    slots: &mut [Offer],
+    repeat: u32,
+    lookups: u32,
+    walks: u32,
+    reaches: u32,
+    scattered: bool,
+) -> u64 {
     let mut sum: u64 = 0;
     for _ in 0..repeat {
         let mut book = OrderedBook::new(&mut *slots);
@@ -120,13 +133,25 @@ fn ordered(slots: &mut [Offer], repeat: u32, lookups: u32, walks: u32, reaches: 
 }
 
 #[unsafe(no_mangle)]
-pub extern "C" fn ordered_small(repeat: u32, lookups: u32, walks: u32, reaches: u32, scattered: bool) -> u64 {
+pub extern "C" fn ordered_small(
+    repeat: u32,
+    lookups: u32,
+    walks: u32,
+    reaches: u32,
+    scattered: bool,
+) -> u64 {
     let mut slots = [BLANK; 256];
     ordered(&mut slots, repeat, lookups, walks, reaches, scattered)
 }
 
 #[unsafe(no_mangle)]
-pub extern "C" fn ordered_large(repeat: u32, lookups: u32, walks: u32, reaches: u32, scattered: bool) -> u64 {
+pub extern "C" fn ordered_large(
+    repeat: u32,
+    lookups: u32,
+    walks: u32,
+    reaches: u32,
+    scattered: bool,
+) -> u64 {
     let mut slots = [BLANK; 65_536];
     ordered(&mut slots, repeat, lookups, walks, reaches, scattered)
 }

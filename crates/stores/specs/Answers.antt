@@ -42,26 +42,25 @@ accountAnswer s account.Capacity = Number (s .capacity)
 accountAnswer s account.Top = Number (s .top)
 accountAnswer s (account.Next n) = numberFound (above name (s .accounts) (n ∷ []))
 
--- the numbers of a key that is found, none where there is none
-abbrev pub keyFound : Answer → List ℕ
-keyFound Done = []
-keyFound (Refused f) = []
-keyFound (Flag f) = []
-keyFound (Number n) = []
-keyFound (Offer j) = words j
-keyFound Nothing = []
+-- the lowest key above, by the five numbers that it is compared by, or nothing
+abbrev pub keyFound : List ℕ → Answer
+keyFound [] = Nothing
+keyFound (x ∷ []) = Nothing
+keyFound (x ∷ y ∷ []) = Nothing
+keyFound (x ∷ y ∷ l ∷ []) = Nothing
+keyFound (x ∷ y ∷ l ∷ n ∷ []) = Nothing
+keyFound (x ∷ y ∷ l ∷ n ∷ q ∷ rest) = Offer (record { sold = x; bought = y; limit = l; account = n; sequence = q })
 
--- an offer book's answer; a key that is found is told by the numbers that it is compared by
-abbrev pub OfferAnswer : Book → OfferAsk → Answer → Type 0
-OfferAnswer b (offer.Place k v) r = r ≡ outcome (placeAnswer b k v)
-OfferAnswer b (offer.Reduce k v) r = r ≡ outcome (reduceAnswer b k v)
-OfferAnswer b (offer.Replace j k v) r = r ≡ outcome (replaceAnswer b j k v)
-OfferAnswer b (offer.Amount k) r = r ≡ Number (amountAt (b .offers) k)
-OfferAnswer b (offer.Offered x) r = r ≡ Number (offeredOf b x)
-OfferAnswer b (offer.UpTo x y l) r = r ≡ Number (upTo b x y l)
-OfferAnswer b offer.Count r = r ≡ Number (length (b .offers))
-OfferAnswer b offer.Capacity r = r ≡ Number (b .capacity)
-OfferAnswer b (offer.Next k) r = keyFound r ≡ above place (b .offers) (words k)
+abbrev pub offerAnswer : Book → OfferAsk → Answer
+offerAnswer b (offer.Place k v) = outcome (placeAnswer b k v)
+offerAnswer b (offer.Reduce k v) = outcome (reduceAnswer b k v)
+offerAnswer b (offer.Replace j k v) = outcome (replaceAnswer b j k v)
+offerAnswer b (offer.Amount k) = Number (amountAt (b .offers) k)
+offerAnswer b (offer.Offered x) = Number (offeredOf b x)
+offerAnswer b (offer.UpTo x y l) = Number (upTo b x y l)
+offerAnswer b offer.Count = Number (length (b .offers))
+offerAnswer b offer.Capacity = Number (b .capacity)
+offerAnswer b (offer.Next k) = keyFound (above place (b .offers) (words k))
 
 -- What is left: a change that is made leaves what it says, and all else leaves the store or book as it was.
 

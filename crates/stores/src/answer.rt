@@ -1,6 +1,6 @@
 // What a store or a book answers to a command, put so that two makes can be compared. Assumes nothing.
 ghost use mathlib.Core.Path.{_≡_};
-ghost use Rattle.stores.specs.Answers.{outcome, accountAnswer, accountsLeft, OfferAnswer, offersLeft};
+ghost use Rattle.stores.specs.Answers.{outcome, accountAnswer, accountsLeft, offerAnswer, offersLeft};
 use crate::ask::AccountAsk;
 use crate::ask::OfferAsk;
 use crate::ask::Shown;
@@ -62,7 +62,7 @@ pub fn ask_accounts<S: AccountStore>(store: &mut S, ask: AccountAsk) -> Answer
 }
 
 pub fn ask_offers<B: OfferBook>(book: &mut B, ask: OfferAsk) -> Answer
-    ensures answer { λ r. ⌜ OfferAnswer (B·OfferBook .orders (now (book .entry)) .book) ask r ⌝ }
+    ensures answer { λ r. ⌜ r ≡ offerAnswer (B·OfferBook .orders (now (book .entry)) .book) ask ⌝ }
     ensures after { λ _. ⌜ offersLeft (B·OfferBook .orders (now (book .entry)) .book) ask (B·OfferBook .orders (now (book .exit)) .book) ⌝ }
 {
     match ask {

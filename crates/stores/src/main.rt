@@ -2,6 +2,11 @@
 // answers side by side. It starts with room for 256 accounts and 256 offers; `fresh SLOTS TOP` starts again with empty
 // stores and books of other sizes. A line that is no command gets a line that says what to write, and the reading goes
 // on. Assumes nothing of the input.
+ghost use mathlib.Core.Path.{_≡_};
+ghost use mathlib.Core.Bool.{true, cond};
+ghost use Prim.Native.Nat.{ℕ, _+_, min};
+ghost use Rattle.std.specs.Results.{Cases};
+
 mod answer;
 mod ask;
 mod operands;
@@ -60,7 +65,11 @@ struct Tally {
 }
 
 impl Tally {
-    fn add(&mut self, agree: bool) {
+    // One more command, whose answers agree or not.
+    fn add(&mut self, agree: bool)
+        ensures commands { λ _. ⌜ now (self .exit) .commands ≡ min (now (self .entry) .commands + 1) 18446744073709551615 ⌝ }
+        ensures differ { λ _. ⌜ now (self .exit) .differ ≡ cond agree (now (self .entry) .differ) (min (now (self .entry) .differ + 1) 18446744073709551615) ⌝ }
+    {
         self.commands = self.commands.saturating_add(1);
         if !agree {
             self.differ = self.differ.saturating_add(1);
@@ -76,7 +85,8 @@ struct Sizes {
     from: usize,
 }
 
-// Runs a command against both makes, prints the answers, and tells whether they agree.
+// Runs a command against both makes, prints the answers, and tells whether they agree: where the two stores mean the
+// same and the two books mean the same, they do.
 fn step<S: AccountStore, T: AccountStore, B: OfferBook, C: OfferBook>(
     rt: &LibcRuntime,
     ask: Ask,
@@ -84,7 +94,9 @@ fn step<S: AccountStore, T: AccountStore, B: OfferBook, C: OfferBook>(
     hashed: &mut T,
     ordered: &mut B,
     trie: &mut C,
-) -> io::Result<bool> {
+) -> io::Result<bool>
+    ensures { λ r. ⌜ (S·AccountStore .ledger (now (sorted .entry)) .store ≡ T·AccountStore .ledger (now (hashed .entry)) .store → B·OfferBook .orders (now (ordered .entry)) .book ≡ C·OfferBook .orders (now (trie .entry)) .book → Cases r (λ agree. agree ≡ true) (λ _. Unit {0})) ⌝ }
+{
     match ask {
         Ask::Accounts(a) => {
             let one = ask_accounts(sorted, a);
