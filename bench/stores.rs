@@ -100,7 +100,7 @@ fn time(run: &dyn Fn() -> u64) -> f64 {
 
 fn line(name: &str, count: u32, scattered: bool, run: &dyn Fn(u32, u32, u32) -> u64) {
     let small = count <= 256;
-    let (repeat, lookups, walks) = if small { (200, 1_000_000, 2_000) } else { (1, 4_000_000, 40) };
+    let (repeat, lookups, walks) = if small { (200, 1_000_000, 2_000) } else { (1, 4_000_000, 200) };
     let opened = time(&|| run(repeat, 0, 0)) / repeat as f64;
     let looked = time(&|| run(1, lookups, 0)) - opened;
     let walked = time(&|| run(1, 0, walks)) - opened;
