@@ -2,6 +2,7 @@
 use mathlib.Core.Path.{_≡_, refl, sym, ap, _∙_}
 use mathlib.Core.List.{List, [], _∷_, _++_}
 use Prim.Native.Nat.{ℕ, zero, suc, _+_, _-_, _*_, _≤_, _<_}
+use native.Mathlib.Nat.{add-assoc}
 use native.Mathlib.Numerals.{add-one}
 use native.Mathlib.Omega.{arith}
 use lib.ListN.{length, take, getD, set}
@@ -22,6 +23,14 @@ rounds-none w s = refl
 pub rounds-more : (n : ℕ) (w : List ℕ) (s : State) → roundsOf (n + 1) w s ≡ roundOf (roundsOf n w s) (constantAt n) (getD w n 0)
 unfolding roundsOf
 rounds-more n w s = ap (λ k. roundsOf k w s) (add-one n)
+
+-- the round after n, where n is written as a sum
+pub one-round : (t i : ℕ) (w : List ℕ) (start s r : State) → s ≡ roundsOf (t + i) w start
+    → r ≡ roundOf s (constantAt (t + i)) (getD w (t + i) 0) → r ≡ roundsOf (t + (i + 1)) w start
+one-round t i w start s r e f =
+    f
+    ∙ (ap (λ x. roundOf x (constantAt (t + i)) (getD w (t + i) 0)) e
+    ∙ (sym (rounds-more (t + i) w start) ∙ ap (λ k. roundsOf k w start) (add-assoc t i 1)))
 
 pub schedule-none : (w : List ℕ) → schedule 0 w ≡ w
 unfolding schedule

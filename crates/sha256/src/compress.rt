@@ -2,7 +2,7 @@
 // hash value and a block of 64 bytes. Assumes nothing beyond each function's `requires`.
 ghost use mathlib.Core.Path.{_≡_};
 ghost use Prim.Native.Nat.{_+_, _*_, _<_, _≤_};
-ghost use lib.ListN.{length, take};
+ghost use lib.ListN.{length, take, getD};
 ghost use Rattle.sha256.specs.Functions.{ch, maj, bigSigma0, bigSigma1, smallSigma0, smallSigma1, constantAt};
 ghost use Rattle.sha256.specs.Padding.{field, wordsOf, initial};
 ghost use Rattle.sha256.specs.Compression.{schedule, roundOf, roundsOf, sumOf, compressOf};
@@ -88,10 +88,11 @@ const K: [u32; 64] = [
     0xc67178f2,
 ];
 
+// Ch by one operation less than the standard's form has.
 fn choose(x: u32, y: u32, z: u32) -> u32
     ensures { λ r. ⌜ r ≡ ch x y z ⌝ }
 {
-    (x & y) ^ (!x & z)
+    z ^ (x & (y ^ z))
 }
 
 fn majority(x: u32, y: u32, z: u32) -> u32
@@ -124,13 +125,6 @@ fn small_sigma1(x: u32) -> u32
     x.rotate_right(17) ^ x.rotate_right(19) ^ (x >> 10)
 }
 
-fn constant(t: usize) -> u32
-    requires { ⌜ t < 64 ⌝ }
-    ensures { λ r. ⌜ r ≡ constantAt t ⌝ }
-{
-    K[t]
-}
-
 // One round, with its constant and its word of the schedule.
 fn round(s: State, k: u32, w: u32) -> State
     ensures { λ r. ⌜ r ≡ roundOf s k w ⌝ }
@@ -153,13 +147,36 @@ fn round(s: State, k: u32, w: u32) -> State
     }
 }
 
+// Round t over a message schedule.
+fn step(s: State, w: &[u32; 64], t: usize) -> State
+    requires { ⌜ t < 64 ⌝ }
+    ensures { λ r. ⌜ r ≡ roundOf s (constantAt t) (getD (now (w .entry)) t 0) ⌝ }
+{
+    round(s, K[t], w[t])
+}
+
+// Eight rounds from round t on, after which each working variable has its first place again.
+fn eight(s: State, w: &[u32; 64], t: usize) -> State
+    requires { ⌜ t + 8 ≤ 64 ⌝ }
+    ensures { λ r. ⌜ ((start : State) → s ≡ roundsOf t (now (w .entry)) start → r ≡ roundsOf (t + 8) (now (w .entry)) start) ⌝ }
+{
+    let s1 = step(s, w, t);
+    let s2 = step(s1, w, t + 1);
+    let s3 = step(s2, w, t + 2);
+    let s4 = step(s3, w, t + 3);
+    let s5 = step(s4, w, t + 4);
+    let s6 = step(s5, w, t + 5);
+    let s7 = step(s6, w, t + 6);
+    step(s7, w, t + 7)
+}
+
 // The 64 rounds over a message schedule.
 fn rounds(start: State, w: &[u32; 64]) -> State
     ensures { λ r. ⌜ r ≡ roundsOf 64 (now (w .entry)) start ⌝ }
 {
     let mut s = start;
-    for t in 0..64 {
-        s = round(s, constant(t), w[t]);
+    for i in 0..8 {
+        s = eight(s, w, 8 * i);
     }
     s
 }

@@ -1,16 +1,14 @@
-use mathlib.Core.Path.{sym, ap, _∙_}
-use lib.ListN.{getD}
-use Rattle.sha256.specs.Functions.{constantAt}
-use Rattle.sha256.specs.Compression.{roundOf}
-use Rattle.sha256.proofs.Schedule.{rounds-none, rounds-more}
+use mathlib.Core.Path.{_≡_, sym, ap, _∙_}
+use Prim.Native.Nat.{_+_, _*_}
+use native.Mathlib.Omega.{arith}
+use Rattle.sha256.specs.Compression.{roundsOf}
+use Rattle.sha256.proofs.Schedule.{rounds-none}
 use Rattle.sha256.proofs.compress.rounds.Needs as need
 
-pub loop-t-holds : need.loop-t-holds
-loop-t-holds c = sym (rounds-none _ _)
+pub loop-i-holds : need.loop-i-holds
+loop-i-holds c = sym (rounds-none _ _)
 
-pub loop-t-again : need.loop-t-again
-loop-t-again c =
-    let w = getD (c .args .w .now) (c .loop-t .t) 0 in
-    c .round-s .ensures
-    ∙ (ap (λ k. roundOf (c .loop-t .s) k w) (c .constant .ensures)
-    ∙ (ap (λ s. roundOf s (constantAt (c .loop-t .t)) w) (c .loop-t .inv) ∙ sym (rounds-more _ _ _)))
+pub loop-i-again : need.loop-i-again
+loop-i-again c =
+    let e : 8 * c .loop-i .i + 8 ≡ 8 * (c .loop-i .i + 1) = omega arith in
+    c .eight-s .ensures (c .args .start) (c .loop-i .inv) ∙ ap (λ k. roundsOf k (c .args .w .now) (c .args .start)) e
