@@ -1,7 +1,8 @@
 // The compression function of FIPS 180-4: the functions of 4.1.2, the constants of 4.2.2, and what 6.2.2 makes of a
 // hash value and a block of 64 bytes. Assumes nothing beyond each function's `requires`.
 ghost use mathlib.Core.Path.{_≡_};
-ghost use Prim.Native.Nat.{_+_, _*_, _<_, _≤_};
+ghost use mathlib.Core.List.{List};
+ghost use Prim.Native.Nat.{ℕ, _+_, _*_, _<_, _≤_};
 ghost use lib.ListN.{length, take, getD};
 ghost use Rattle.sha256.specs.Functions.{ch, maj, bigSigma0, bigSigma1, smallSigma0, smallSigma1, constantAt};
 ghost use Rattle.sha256.specs.Padding.{field, wordsOf, initial};
@@ -155,10 +156,12 @@ fn step(s: State, w: &[u32; 64], t: usize) -> State
     round(s, K[t], w[t])
 }
 
-// Eight rounds from round t on, after which each working variable has its first place again.
+// Eight rounds from round t on, after which each working variable has its first place again. Only the words up to t + 7
+// of the schedule need be there.
 fn eight(s: State, w: &[u32; 64], t: usize) -> State
     requires { ⌜ t + 8 ≤ 64 ⌝ }
-    ensures { λ r. ⌜ ((start : State) → s ≡ roundsOf t (now (w .entry)) start → r ≡ roundsOf (t + 8) (now (w .entry)) start) ⌝ }
+    ensures { λ r. ⌜ ((start : State) (all : List ℕ) → take (t + 8) (now (w .entry)) ≡ take (t + 8) all
+        → s ≡ roundsOf t all start → r ≡ roundsOf (t + 8) all start) ⌝ }
 {
     let s1 = step(s, w, t);
     let s2 = step(s1, w, t + 1);
@@ -170,22 +173,13 @@ fn eight(s: State, w: &[u32; 64], t: usize) -> State
     step(s7, w, t + 7)
 }
 
-// The 64 rounds over a message schedule.
-fn rounds(start: State, w: &[u32; 64]) -> State
-    ensures { λ r. ⌜ r ≡ roundsOf 64 (now (w .entry)) start ⌝ }
+// Eight words more of a message schedule of n + 16 words.
+fn extend(w: &mut [u32; 64], n: usize)
+    requires { ⌜ n + 24 ≤ 64 ⌝ }
+    ensures { λ _. ⌜ ((first : List ℕ) → take (n + 16) (now (w .entry)) ≡ schedule n first
+        → take (n + 24) (now (w .exit)) ≡ schedule (n + 8) first) ⌝ }
 {
-    let mut s = start;
-    for i in 0..8 {
-        s = eight(s, w, 8 * i);
-    }
-    s
-}
-
-// Writes the words 16 to 63 of the message schedule behind its first 16.
-fn extend(w: &mut [u32; 64])
-    ensures { λ _. ⌜ now (w .exit) ≡ schedule 48 (take 16 (now (w .entry))) ⌝ }
-{
-    for t in 16..64 {
+    for t in n + 16..n + 24 {
         let x = small_sigma1(w[t - 2])
             .wrapping_add(w[t - 7])
             .wrapping_add(small_sigma0(w[t - 15]))
@@ -212,6 +206,22 @@ fn load(block: &[u8]) -> [u32; 64]
         w[t] = word(block, 4 * t);
     }
     w
+}
+
+// The 64 rounds over a block. The message schedule is written as they go, eight words at a time: so the processor can work
+// at both at once.
+fn rounds(start: State, block: &[u8]) -> State
+    requires { ⌜ length (now block) ≡ 64 ⌝ }
+    ensures { λ r. ⌜ r ≡ roundsOf 64 (schedule 48 (wordsOf 16 (now (block .entry)))) start ⌝ }
+{
+    let mut w = load(block);
+    let mut s = start;
+    for i in 0..6 {
+        extend(&mut w, 8 * i);
+        s = eight(s, &w, 8 * i);
+    }
+    let last = eight(s, &w, 48);
+    eight(last, &w, 56)
 }
 
 // The sums of two states, word by word.
@@ -252,9 +262,7 @@ impl State {
         requires { ⌜ length (now block) ≡ 64 ⌝ }
         ensures { λ r. ⌜ r ≡ compressOf self (now (block .entry)) ⌝ }
     {
-        let mut w = load(block);
-        extend(&mut w);
-        add(self, rounds(self, &w))
+        add(self, rounds(self, block))
     }
 
     // The bytes of the eight words, in turn.
