@@ -9,7 +9,8 @@ use lib.ListN.{length, take, getD, set}
 use Rattle.std.proofs.shelf.Lists.{length-push, length-take-le, getD-take, take-all, take-take, take-append-le, take-more-set}
 use Rattle.sha256.specs.declared.compress.State.{State}
 use Rattle.sha256.specs.Functions.{plus, smallSigma0, smallSigma1, constantAt}
-use Rattle.sha256.specs.Padding.{field, wordsOf}
+use Rattle.sha256.specs.Bytes.{field}
+use Rattle.sha256.specs.Padding.{wordsOf}
 use Rattle.sha256.specs.Compression.{schedule, nextWord, roundOf, roundsOf}
 
 pub words-more : (n : ℕ) (block : List ℕ) → wordsOf (n + 1) block ≡ wordsOf n block ++ field 4 block (4 * n) ∷ []

@@ -8,7 +8,8 @@ use lib.ListN.{length, take, drop, replicate}
 use Rattle.std.proofs.shelf.Lists.{length-append, length-drop, drop-append-le, take-append-le, take-all, take-replicate, drop-all}
 use Rattle.std.proofs.shelf.Bits.{field-of}
 use Rattle.sha256.specs.declared.compress.State.{State}
-use Rattle.sha256.specs.Padding.{bytesOf, zeros, pad}
+use Rattle.sha256.specs.Bytes.{bytesOf}
+use Rattle.sha256.specs.Padding.{zeros, pad}
 use Rattle.sha256.specs.Compression.{compressOf, chain}
 use Rattle.sha256.specs.Digest.{digestOf, sha256}
 use Rattle.sha256.specs.Streaming.{Kept}

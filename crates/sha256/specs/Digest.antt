@@ -3,7 +3,8 @@ use mathlib.Core.List.{List, _++_}
 use Prim.Native.Nat.{ℕ, _/_}
 use lib.ListN.{length}
 use Rattle.sha256.specs.declared.compress.State.{State}
-use Rattle.sha256.specs.Padding.{pad, bytesOf}
+use Rattle.sha256.specs.Bytes.{bytesOf}
+use Rattle.sha256.specs.Padding.{pad}
 use Rattle.sha256.specs.Compression.{chain}
 
 -- the 32 bytes of a hash value: four for each word, in turn

@@ -1,3 +1,4 @@
+pub mod Bytes
 pub mod Functions
 pub mod Padding
 pub mod Compression

@@ -2,19 +2,10 @@
 -- A message is a list of bytes.
 use mathlib.Core.Path.{_≡_}
 use mathlib.Core.List.{List, [], _∷_, _++_}
-use Prim.Native.Nat.{ℕ, zero, suc, _+_, _-_, _*_, _/_, _%_, _^_, _<_}
-use lib.ListN.{length, getD, replicate}
+use Prim.Native.Nat.{ℕ, zero, suc, _+_, _-_, _*_, _%_, _<_}
+use lib.ListN.{length, replicate}
 use Rattle.sha256.specs.declared.compress.State.{State}
-
--- the k bytes of a number, highest first
-abbrev pub bytesOf : ℕ → ℕ → List ℕ
-bytesOf zero n = []
-bytesOf (suc k) n = (n / 256 ^ k) % 256 ∷ bytesOf k n
-
--- the number in the k bytes at a place, highest first
-abbrev pub field : ℕ → List ℕ → ℕ → ℕ
-field zero bs at = 0
-field (suc k) bs at = field k bs at * 256 + getD bs (at + k) 0
+use Rattle.sha256.specs.Bytes.{bytesOf, field}
 
 -- how many bytes 0 the padding of a message of n bytes has
 abbrev pub zeros : ℕ → ℕ

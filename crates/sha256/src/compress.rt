@@ -5,13 +5,14 @@ ghost use mathlib.Core.List.{List};
 ghost use Prim.Native.Nat.{ℕ, _+_, _*_, _<_, _≤_};
 ghost use lib.ListN.{length, take, getD};
 ghost use Rattle.sha256.specs.Functions.{ch, maj, bigSigma0, bigSigma1, smallSigma0, smallSigma1, constantAt};
-ghost use Rattle.sha256.specs.Padding.{field, wordsOf, initial};
+ghost use Rattle.sha256.specs.Bytes.{field};
+ghost use Rattle.sha256.specs.Padding.{wordsOf, initial};
 ghost use Rattle.sha256.specs.Compression.{schedule, roundOf, roundsOf, sumOf, compressOf};
 ghost use Rattle.sha256.specs.Digest.{digestOf};
 
 // Eight words: a hash value, H0 to H7 of the standard, or the working variables, a to h.
 #[derive(Clone, Copy)]
-pub struct State {
+pub(crate) struct State {
     a: u32,
     b: u32,
     c: u32,
@@ -22,6 +23,7 @@ pub struct State {
     h: u32,
 }
 
+// K_t of the standard, one for each round.
 const K: [u32; 64] = [
     0x428a2f98,
     0x71374491,
@@ -89,37 +91,42 @@ const K: [u32; 64] = [
     0xc67178f2,
 ];
 
-// Ch by one operation less than the standard's form has.
+// Ch: each bit of x chooses between those of y and z. This form takes an operation less than the standard's.
 fn choose(x: u32, y: u32, z: u32) -> u32
     ensures { λ r. ⌜ r ≡ ch x y z ⌝ }
 {
     z ^ (x & (y ^ z))
 }
 
+// Maj: each bit is what most of the three have.
 fn majority(x: u32, y: u32, z: u32) -> u32
     ensures { λ r. ⌜ r ≡ maj x y z ⌝ }
 {
     (x & y) ^ (x & z) ^ (y & z)
 }
 
+// Σ0
 fn big_sigma0(x: u32) -> u32
     ensures { λ r. ⌜ r ≡ bigSigma0 x ⌝ }
 {
     x.rotate_right(2) ^ x.rotate_right(13) ^ x.rotate_right(22)
 }
 
+// Σ1
 fn big_sigma1(x: u32) -> u32
     ensures { λ r. ⌜ r ≡ bigSigma1 x ⌝ }
 {
     x.rotate_right(6) ^ x.rotate_right(11) ^ x.rotate_right(25)
 }
 
+// σ0
 fn small_sigma0(x: u32) -> u32
     ensures { λ r. ⌜ r ≡ smallSigma0 x ⌝ }
 {
     x.rotate_right(7) ^ x.rotate_right(18) ^ (x >> 3)
 }
 
+// σ1
 fn small_sigma1(x: u32) -> u32
     ensures { λ r. ⌜ r ≡ smallSigma1 x ⌝ }
 {

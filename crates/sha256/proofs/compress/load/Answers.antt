@@ -4,7 +4,8 @@ use native.Mathlib.Omega.{arith}
 use Prim.Native.Nat.{_<_, _*_}
 use lib.ListN.{length, take}
 use Rattle.std.proofs.shelf.Lists.{length-set, take-more-set}
-use Rattle.sha256.specs.Padding.{wordsOf, field}
+use Rattle.sha256.specs.Bytes.{field}
+use Rattle.sha256.specs.Padding.{wordsOf}
 use Rattle.sha256.proofs.Schedule.{words-more}
 use Rattle.sha256.proofs.compress.load.Needs as need
 
