@@ -1,5 +1,6 @@
-// SHA-256 in ordinary Rust, in the same structure as crates/sha256, to compare speed with: prints the digest of
-// standard input. Built by bench/sha256.sh with `rustc -O`.
+// SHA-256 in ordinary Rust, in the same structure as crates/sha256 (eight rounds a turn, the message schedule written as
+// they go, whole blocks straight from the input), to compare speed with: prints the digest of standard input.
+// Built by bench/sha256.sh with `rustc -O`.
 use std::io::{self, Read};
 
 const K: [u32; 64] = [
@@ -13,52 +14,93 @@ const K: [u32; 64] = [
     0x748f82ee, 0x78a5636f, 0x84c87814, 0x8cc70208, 0x90befffa, 0xa4506ceb, 0xbef9a3f7, 0xc67178f2,
 ];
 
-const INITIAL: [u32; 8] = [
-    0x6a09e667, 0xbb67ae85, 0x3c6ef372, 0xa54ff53a, 0x510e527f, 0x9b05688c, 0x1f83d9ab, 0x5be0cd19,
-];
+#[derive(Clone, Copy)]
+struct State {
+    a: u32,
+    b: u32,
+    c: u32,
+    d: u32,
+    e: u32,
+    f: u32,
+    g: u32,
+    h: u32,
+}
+
+const INITIAL: State = State {
+    a: 0x6a09e667,
+    b: 0xbb67ae85,
+    c: 0x3c6ef372,
+    d: 0xa54ff53a,
+    e: 0x510e527f,
+    f: 0x9b05688c,
+    g: 0x1f83d9ab,
+    h: 0x5be0cd19,
+};
 
 struct Hasher {
-    state: [u32; 8],
+    state: State,
     buffer: [u8; 64],
     count: u64,
 }
 
-fn schedule(block: &[u8]) -> [u32; 64] {
-    let mut w = [0; 64];
-    for (word, bytes) in w.iter_mut().zip(block.chunks_exact(4)) {
-        *word = u32::from_be_bytes([bytes[0], bytes[1], bytes[2], bytes[3]]);
-    }
-    for t in 16..64 {
+fn step(s: State, w: &[u32; 64], t: usize) -> State {
+    let s1 = s.e.rotate_right(6) ^ s.e.rotate_right(11) ^ s.e.rotate_right(25);
+    let ch = s.g ^ (s.e & (s.f ^ s.g));
+    let t1 = s.h.wrapping_add(s1).wrapping_add(ch).wrapping_add(K[t]).wrapping_add(w[t]);
+    let s0 = s.a.rotate_right(2) ^ s.a.rotate_right(13) ^ s.a.rotate_right(22);
+    let maj = (s.a & s.b) ^ (s.a & s.c) ^ (s.b & s.c);
+    let t2 = s0.wrapping_add(maj);
+    State { a: t1.wrapping_add(t2), b: s.a, c: s.b, d: s.c, e: s.d.wrapping_add(t1), f: s.e, g: s.f, h: s.g }
+}
+
+fn eight(s: State, w: &[u32; 64], t: usize) -> State {
+    let s1 = step(s, w, t);
+    let s2 = step(s1, w, t + 1);
+    let s3 = step(s2, w, t + 2);
+    let s4 = step(s3, w, t + 3);
+    let s5 = step(s4, w, t + 4);
+    let s6 = step(s5, w, t + 5);
+    let s7 = step(s6, w, t + 6);
+    step(s7, w, t + 7)
+}
+
+fn extend(w: &mut [u32; 64], n: usize) {
+    for t in n + 16..n + 24 {
         let x = w[t - 2];
         let y = w[t - 15];
         let s1 = x.rotate_right(17) ^ x.rotate_right(19) ^ (x >> 10);
         let s0 = y.rotate_right(7) ^ y.rotate_right(18) ^ (y >> 3);
         w[t] = s1.wrapping_add(w[t - 7]).wrapping_add(s0).wrapping_add(w[t - 16]);
     }
-    w
 }
 
-fn compress(state: &mut [u32; 8], block: &[u8]) {
-    let w = schedule(block);
-    let [mut a, mut b, mut c, mut d, mut e, mut f, mut g, mut h] = *state;
-    for t in 0..64 {
-        let s1 = e.rotate_right(6) ^ e.rotate_right(11) ^ e.rotate_right(25);
-        let ch = (e & f) ^ (!e & g);
-        let t1 = h.wrapping_add(s1).wrapping_add(ch).wrapping_add(K[t]).wrapping_add(w[t]);
-        let s0 = a.rotate_right(2) ^ a.rotate_right(13) ^ a.rotate_right(22);
-        let maj = (a & b) ^ (a & c) ^ (b & c);
-        let t2 = s0.wrapping_add(maj);
-        h = g;
-        g = f;
-        f = e;
-        e = d.wrapping_add(t1);
-        d = c;
-        c = b;
-        b = a;
-        a = t1.wrapping_add(t2);
+fn rounds(start: State, block: &[u8]) -> State {
+    let mut w = [0; 64];
+    for (word, bytes) in w.iter_mut().zip(block.chunks_exact(4)) {
+        *word = u32::from_be_bytes([bytes[0], bytes[1], bytes[2], bytes[3]]);
     }
-    for (x, y) in state.iter_mut().zip([a, b, c, d, e, f, g, h]) {
-        *x = x.wrapping_add(y);
+    let mut s = start;
+    for i in 0..6 {
+        extend(&mut w, 8 * i);
+        s = eight(s, &w, 8 * i);
+    }
+    let last = eight(s, &w, 48);
+    eight(last, &w, 56)
+}
+
+impl State {
+    fn compress(self, block: &[u8]) -> State {
+        let t = rounds(self, block);
+        State {
+            a: self.a.wrapping_add(t.a),
+            b: self.b.wrapping_add(t.b),
+            c: self.c.wrapping_add(t.c),
+            d: self.d.wrapping_add(t.d),
+            e: self.e.wrapping_add(t.e),
+            f: self.f.wrapping_add(t.f),
+            g: self.g.wrapping_add(t.g),
+            h: self.h.wrapping_add(t.h),
+        }
     }
 }
 
@@ -73,7 +115,7 @@ impl Hasher {
         self.buffer[used..end].copy_from_slice(part);
         self.count = self.count.wrapping_add(part.len() as u64);
         if end == 64 {
-            compress(&mut self.state, &self.buffer);
+            self.state = self.state.compress(&self.buffer);
         }
     }
 
@@ -84,7 +126,7 @@ impl Hasher {
         self.keep(head);
         let mut blocks = rest.chunks_exact(64);
         for block in &mut blocks {
-            compress(&mut self.state, block);
+            self.state = self.state.compress(block);
             self.count = self.count.wrapping_add(64);
         }
         self.keep(blocks.remainder());
@@ -97,8 +139,9 @@ impl Hasher {
         padding[0] = 0x80;
         self.update(&padding[..zeros + 1]);
         self.update(&bits.to_be_bytes());
+        let State { a, b, c, d, e, f, g, h } = self.state;
         let mut digest = [0; 32];
-        for (bytes, word) in digest.chunks_exact_mut(4).zip(self.state) {
+        for (bytes, word) in digest.chunks_exact_mut(4).zip([a, b, c, d, e, f, g, h]) {
             bytes.copy_from_slice(&word.to_be_bytes());
         }
         digest
