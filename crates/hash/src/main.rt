@@ -1,4 +1,4 @@
-// Prints the SHA-256 digest of standard input.
+// Prints the SHA-256 digest of standard input, which is hashed as it is read. Assumes nothing.
 use sha256::Hasher;
 use sha256::hex;
 use std::io;

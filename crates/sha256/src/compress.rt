@@ -2,7 +2,7 @@
 // hash value and a block of 64 bytes. Assumes nothing beyond each function's `requires`.
 ghost use mathlib.Core.Path.{_≡_};
 ghost use mathlib.Core.List.{List};
-ghost use Prim.Native.Nat.{ℕ, _+_, _*_, _<_, _≤_};
+ghost use Prim.Native.Nat.{ℕ, _+_, _<_, _≤_};
 ghost use lib.ListN.{length, take, getD};
 ghost use Rattle.sha256.specs.Functions.{ch, maj, bigSigma0, bigSigma1, smallSigma0, smallSigma1, constantAt};
 ghost use Rattle.sha256.specs.Bytes.{field};
@@ -276,47 +276,20 @@ impl State {
     pub(crate) fn bytes(self) -> [u8; 32]
         ensures { λ r. ⌜ r ≡ digestOf self ⌝ }
     {
-        let a = self.a.to_be_bytes();
-        let b = self.b.to_be_bytes();
-        let c = self.c.to_be_bytes();
-        let d = self.d.to_be_bytes();
-        let e = self.e.to_be_bytes();
-        let f = self.f.to_be_bytes();
-        let g = self.g.to_be_bytes();
-        let h = self.h.to_be_bytes();
-        [
-            a[0],
-            a[1],
-            a[2],
-            a[3],
-            b[0],
-            b[1],
-            b[2],
-            b[3],
-            c[0],
-            c[1],
-            c[2],
-            c[3],
-            d[0],
-            d[1],
-            d[2],
-            d[3],
-            e[0],
-            e[1],
-            e[2],
-            e[3],
-            f[0],
-            f[1],
-            f[2],
-            f[3],
-            g[0],
-            g[1],
-            g[2],
-            g[3],
-            h[0],
-            h[1],
-            h[2],
-            h[3],
-        ]
+        let words = [
+            self.a,
+            self.b,
+            self.c,
+            self.d,
+            self.e,
+            self.f,
+            self.g,
+            self.h,
+        ];
+        let mut bytes = [0; 32];
+        for i in 0..8 {
+            bytes[4 * i..4 * i + 4].copy_from_slice(&words[i].to_be_bytes());
+        }
+        bytes
     }
 }

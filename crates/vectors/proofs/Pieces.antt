@@ -1,6 +1,6 @@
 -- One piece more of letters.
 use mathlib.Core.Path.{_≡_, refl}
-use mathlib.Core.List.{List, _++_}
+use mathlib.Core.List.{_++_}
 use Prim.Native.Nat.{ℕ, _+_}
 use lib.ListN.{replicate}
 use Rattle.std.proofs.shelf.Lists.{replicate-append-replicate}

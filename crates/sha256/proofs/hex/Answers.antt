@@ -1,9 +1,9 @@
 use mathlib.Core.Path.{_≡_, sym, ap, _∙_}
 use mathlib.Core.List.{List, [], _∷_, _++_}
-use Prim.Native.Nat.{ℕ, _+_, _*_, _/_, _%_, _≤_, _<_}
+use Prim.Native.Nat.{ℕ, _+_, _*_, _/_, _≤_, _<_}
 use native.Mathlib.Omega.{arith}
 use lib.ListN.{length, take, getD, set}
-use Rattle.std.proofs.shelf.Lists.{length-set, take-all, take-set, take-more, take-more-set, joined-more, append-assoc}
+use Rattle.std.proofs.shelf.Lists.{length-set, take-all, take-more, take-more-set, joined-more, append-assoc}
 use Rattle.sha256.specs.Hex.{hexDigit, hexByte, hexOf}
 use Rattle.sha256.proofs.hex.Needs as need
 

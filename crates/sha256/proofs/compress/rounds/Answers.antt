@@ -2,7 +2,7 @@ use mathlib.Core.Path.{_≡_, sym, ap, subst, _∙_}
 use mathlib.Core.List.{List}
 use Prim.Native.Nat.{ℕ, _+_, _-_, _*_, _≤_}
 use native.Mathlib.Omega.{arith}
-use lib.ListN.{length, take}
+use lib.ListN.{take}
 use Rattle.sha256.specs.Padding.{wordsOf}
 use Rattle.sha256.specs.Compression.{schedule, roundsOf}
 use Rattle.sha256.proofs.Schedule.{rounds-none, schedule-none, schedule-part, length-words}
