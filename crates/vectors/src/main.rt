@@ -19,7 +19,7 @@ fn million() -> [u8; 32]
 {
     let piece = [b'a'; 999];
     let mut hasher = Hasher::new();
-    for i in 0..1001usize {
+    for _i in 0..1001usize {
         hasher.update(&piece);
     }
     hasher.update(b"a");

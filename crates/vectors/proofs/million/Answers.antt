@@ -12,14 +12,14 @@ loop-i-holds c = subst (Holds (c .new-hasher .result)) letters-none (c .new-hash
 
 pub loop-i-again : need.loop-i-again
 loop-i-again c =
-    let i = c .loop-i .i in
+    let i = c .loop-i .-i in
     let n : 999 * i + 999 ≡ 999 * (i + 1) = omega arith in
     subst (Holds (c .update .last .self)) (letters-more (999 * i) 999 ∙ ap letters n)
     (c .update .ensures (letters (999 * i)) (c .loop-i .inv))
 
 pub returns : need.returns
 returns c =
-    let i = c .loop-i .i in
+    let i = c .loop-i .-i in
     let n : 999 * i + 1 ≡ 1000000 = omega arith in
     c .finish .ensures .digest _ (c .update-2 .ensures (letters (999 * i)) (c .loop-i .inv))
     ∙ ap sha256 (letters-more (999 * i) 1 ∙ ap letters n)
