@@ -1,8 +1,5 @@
 // Shows what a proposer sent: a founding and blocks from standard input, a line for each command, in plain words.
 // Places count from the first byte of their founding or block. Assumes nothing of the input.
-ghost use Prim.Native.Nat.{_≤_};
-ghost use lib.ListN.{length as size};
-
 mod totals;
 
 use blocks::length;
@@ -12,7 +9,6 @@ use blocks::read_founding;
 use std::error::AnyError;
 use std::io;
 use std::io::Read;
-use terms::Fault;
 use totals::Totals;
 use totals::TotalsDisplay;
 use wording::Line;
@@ -59,8 +55,8 @@ fn show_block(rt: &LibcRuntime, bytes: &[u8]) -> io::Result<()> {
 // The founding and the blocks in turn, until the bytes are used up or no further end can be found.
 fn show_all(rt: &LibcRuntime, bytes: &[u8]) -> io::Result<()> {
     let mut start = 0;
-    let mut what = "founding";
     while start < bytes.len() {
+        let what = if start == 0 { "founding" } else { "block" };
         let rest = &bytes[start..];
         match length(rest) {
             Ok(n) => {
@@ -73,7 +69,6 @@ fn show_all(rt: &LibcRuntime, bytes: &[u8]) -> io::Result<()> {
                     show_block(rt, part)?;
                 }
                 start += n;
-                what = "block";
             }
             Err(fault) => {
                 println!(rt, "{what} at byte {start} of the input, without an end")?;

@@ -23,19 +23,17 @@ struct Balances([u64; 8]);
 
 impl fmt::Display for Balances as BalancesDisplay {
     fn fmt<W: fmt::Write>(&self, f: &mut fmt::Formatter<W>) -> fmt::Result {
-        let mut comma = "";
+        let mut first = true;
         let balances = self.0;
         for (asset, balance) in balances.iter().enumerate() {
             let amount = *balance;
             if amount > 0 {
+                let comma = if first { "" } else { "," };
                 write!(f, "{comma} {amount} of asset {asset}")?;
-                comma = ",";
+                first = false;
             }
         }
-        if comma.is_empty() {
-            write!(f, " nothing")?;
-        }
-        Ok(())
+        if first { write!(f, " nothing") } else { Ok(()) }
     }
 }
 
