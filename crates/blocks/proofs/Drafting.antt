@@ -269,6 +269,13 @@ one (transaction t n) = omega arith
 one (found x) = omega arith
 one end = omega arith
 
+-- what the test for a transaction too many says
+pub overflow : (n : ℕ) (c : Cmd) → true ≡ ltb 1024 (n + length (transactions c)) → 1024 < n + length (transactions c)
+overflow n c e = ltb-true 1024 (n + length (transactions c)) (sym e)
+
+pub overflow-not : (n : ℕ) (c : Cmd) → false ≡ ltb 1024 (n + length (transactions c)) → n + length (transactions c) ≤ 1024
+overflow-not n c e = ltb-false 1024 (n + length (transactions c)) (sym e)
+
 -- a transaction that has no room comes after 1,024 others
 pub full : (n : ℕ) (c : Cmd) → n ≤ 1024 → 1024 < n + length (transactions c) → (n ≡ 1024) × (length (transactions c) ≡ 1)
 full n c h k = (omega (arith, one c), omega (arith, one c))

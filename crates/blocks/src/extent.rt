@@ -2,6 +2,7 @@
 ghost use Rattle.std.specs.Results.{Cases};
 ghost use Rattle.blocks.specs.Readable.{Ends, Endless};
 use crate::command::Command;
+use crate::parser::fault_at;
 use crate::parser::parse;
 use terms::Fault;
 
@@ -18,9 +19,5 @@ pub fn length(bytes: &[u8]) -> Result<usize, Fault>
         }
         at = reading.next;
     }
-    Err(Fault {
-        number: 2,
-        first: at as u64,
-        second: 0,
-    })
+    Err(fault_at(2, at))
 }

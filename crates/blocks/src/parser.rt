@@ -15,6 +15,17 @@ use crate::command::Reading;
 use crate::ranges::in_range;
 use terms::Fault;
 
+// A fault at a byte place.
+pub(crate) fn fault_at(number: u8, at: usize) -> Fault
+    ensures { λ r. ⌜ r ≡ record { number = number; first = at; second = 0 } ⌝ }
+{
+    Fault {
+        number,
+        first: at as u64,
+        second: 0,
+    }
+}
+
 // How many bytes a command has, with its letter; 0 for a byte that is no letter of a command.
 pub(crate) fn width_of(letter: u8) -> usize
     ensures { λ r. ⌜ r ≡ width letter ⌝ }
@@ -201,26 +212,14 @@ pub(crate) fn parse<'a>(bytes: &'a [u8], at: usize) -> Result<Reading<'a>, Fault
     ensures { λ r. ⌜ told r ≡ cut (now (bytes .entry)) at ⌝ }
 {
     if at >= bytes.len() {
-        return Err(Fault {
-            number: 2,
-            first: at as u64,
-            second: 0,
-        });
+        return Err(fault_at(2, at));
     }
     let width = width_of(bytes[at]);
     if width == 0 {
-        return Err(Fault {
-            number: 3,
-            first: at as u64,
-            second: 0,
-        });
+        return Err(fault_at(3, at));
     }
     if bytes.len() - at < width {
-        return Err(Fault {
-            number: 2,
-            first: at as u64,
-            second: 0,
-        });
+        return Err(fault_at(2, at));
     }
     Ok(Reading {
         command: operands(bytes, at),
@@ -235,11 +234,7 @@ pub fn read<'a>(bytes: &'a [u8], at: usize) -> Result<Reading<'a>, Fault>
 {
     let reading = parse(bytes, at)?;
     if !in_range(reading.command) {
-        return Err(Fault {
-            number: 5,
-            first: at as u64,
-            second: 0,
-        });
+        return Err(fault_at(5, at));
     }
     Ok(reading)
 }

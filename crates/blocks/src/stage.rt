@@ -7,6 +7,7 @@ ghost use Rattle.blocks.specs.Shown.{shown, told};
 ghost use Rattle.blocks.specs.Stages.{admits, afterwards, stepped};
 use crate::command::Command;
 use crate::command::Reading;
+use crate::parser::fault_at;
 use crate::parser::parse;
 use crate::ranges::in_range;
 use terms::Fault;
@@ -90,18 +91,10 @@ pub(crate) fn step<'a>(bytes: &'a [u8], at: usize, stage: Stage) -> Result<Readi
 {
     let reading = parse(bytes, at)?;
     if !stage.admits(reading.command) {
-        return Err(Fault {
-            number: 4,
-            first: at as u64,
-            second: 0,
-        });
+        return Err(fault_at(4, at));
     }
     if !in_range(reading.command) {
-        return Err(Fault {
-            number: 5,
-            first: at as u64,
-            second: 0,
-        });
+        return Err(fault_at(5, at));
     }
     Ok(reading)
 }

@@ -23,7 +23,10 @@ fn show_commands(rt: &LibcRuntime, bytes: &[u8]) -> io::Result<()> {
         let Ok(reading) = read(bytes, at) else {
             break;
         };
-        rt.println(Line { place: at, command: reading.command })?;
+        rt.println(Line {
+            place: at,
+            command: reading.command,
+        })?;
         at = reading.next;
         if at >= bytes.len() {
             break;

@@ -48,11 +48,11 @@ fn grant(founding: &mut Vec<u8>, account: u32, balance: u64) -> Result<(), Alloc
 #[cfg(test)]
 mod tests {
     use super::*;
+    use blocks::Command;
     use blocks::length;
     use blocks::read;
     use blocks::read_block;
     use blocks::read_founding;
-    use blocks::Command;
     use std::test::*;
     use terms::FaultDebug;
 
@@ -88,7 +88,11 @@ mod tests {
         check_eq(read_block(b"").err().is_some(), true)?;
         let mut short = Vec::new(rt.alloc());
         for byte in block.iter() {
-            let expected = if short.len() < 37 { 0 } else { short.len() as u64 - (short.len() as u64 - 37) % 6 };
+            let expected = if short.len() < 37 {
+                0
+            } else {
+                short.len() as u64 - (short.len() as u64 - 37) % 6
+            };
             check_eq(block_fault(&short), (2, expected))?;
             short.push(*byte)?;
         }
@@ -203,11 +207,20 @@ mod tests {
     fn memo(rt: LibcRuntime) -> Result<(), Fail> {
         let mut block = opening(rt.alloc())?;
         pay(&mut block, 7, 8, 9)?;
-        check_eq(read(block.as_slice(), 86).err().is_some(), true).note("no letter at the next byte")?;
+        check_eq(read(block.as_slice(), 86).err().is_some(), true).note(
+            "no letter at the next byte",
+        )?;
         let reading = read(block.as_slice(), 85)?;
         check_eq(reading.next, 123)?;
         match reading.command {
-            Command::Pay { source, sequence, receiver, asset, amount, memo } => {
+            Command::Pay {
+                source,
+                sequence,
+                receiver,
+                asset,
+                amount,
+                memo,
+            } => {
                 check_eq((source, sequence, receiver, asset, amount), (7, 8, 2, 0, 9))?;
                 check(memo == b"sixteen letters.")
             }

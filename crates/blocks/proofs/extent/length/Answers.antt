@@ -24,9 +24,14 @@ returns-in-End c =
     let l = q .is ∙ ap shown (c .in-End .is) in
     let m = whole-moves bs at (q .here) in
     record {
-      commands = i .0; place = at; stand = i .1; unended = i .2; here = q .here; last = l;
+      commands = i .0;
+      place = at;
+      stand = i .1;
+      unended = i .2;
+      here = q .here;
+      last = l;
       upto = sym (q .then) ∙ ap (λ w. at + w) (end-width bs at (q .here) l);
-      within = omega (arith, m .1, q .then)
+      within = omega (arith, m .1, q .then);
     }
 
 pub loop-at-less : need.loop-at-less
