@@ -16,7 +16,7 @@ use Rattle.terms.specs.Ranges.{isPair, isAsset, isPrice, isAmount}
 use Rattle.blocks.specs.declared.drafted.Draft.{Draft}
 use Rattle.blocks.specs.declared.stage.Stage.{Stage}
 use Rattle.blocks.specs.declared.stage.Stage.the-variants.{Start, Price, FirstVolume, VolumeAbove, Transactions, Grants}
-use Rattle.blocks.specs.Format.{Cmd, begin, price, volume, transaction, found, end, fit}
+use Rattle.commands.specs.Format.{Cmd, begin, price, volume, transaction, found, end, fit}
 use Rattle.blocks.specs.Readable.{heights, parents, prices, volumes, transactions, pair}
 use Rattle.blocks.specs.Stages.{admits, afterwards}
 use Rattle.blocks.specs.Drafts.{added, Room}

@@ -2,14 +2,14 @@
 ghost use Rattle.std.specs.Results.{Cases};
 ghost use Rattle.blocks.specs.Readable.{Readable, Founds, Refused, isBegin, isGrant};
 ghost use Rattle.blocks.specs.Decoded.{blockOf, grantsOf};
-use crate::command::Command;
 use crate::decoded::DecodedBlock;
 use crate::decoded::DecodedFounding;
 use crate::drafted::Draft;
-use crate::parser::fault_at;
-use crate::ranges::eight_balances;
 use crate::stage::Stage;
 use crate::stage::step;
+use commands::Command;
+use commands::eight_balances;
+use commands::fault_at;
 use terms::Fault;
 use terms::Grant;
 

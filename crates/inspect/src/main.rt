@@ -2,10 +2,10 @@
 // Places count from the first byte of their founding or block. Assumes nothing of the input.
 mod totals;
 
-use blocks::length;
-use blocks::read;
 use blocks::read_block;
 use blocks::read_founding;
+use commands::length;
+use commands::read;
 use std::error::AnyError;
 use std::io;
 use std::io::Read;

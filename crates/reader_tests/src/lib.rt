@@ -48,11 +48,11 @@ fn grant(founding: &mut Vec<u8>, account: u32, balance: u64) -> Result<(), Alloc
 #[cfg(test)]
 mod tests {
     use super::*;
-    use blocks::Command;
-    use blocks::length;
-    use blocks::read;
     use blocks::read_block;
     use blocks::read_founding;
+    use commands::Command;
+    use commands::length;
+    use commands::read;
     use std::test::*;
     use terms::FaultDebug;
 

@@ -1,6 +1,6 @@
 // One command in one line: its byte place, its letter, and its operands by name. What is sold and what is bought is said in full.
-use blocks::Command;
-use blocks::eight_balances;
+use commands::Command;
+use commands::eight_balances;
 use std::fmt;
 
 // Bytes as hexadecimal digits.

@@ -5,17 +5,17 @@ use lib.ListN.{length}
 use Prim.Native.Nat.{ℕ, _+_, _≤_, _<_}
 use native.Mathlib.Omega.{arith}
 use Rattle.std.proofs.shelf.Results.{err-from-errBy}
-use Rattle.blocks.specs.Format.{Cmd, end, got}
-use Rattle.blocks.specs.Shown.{shown}
+use Rattle.commands.specs.Format.{Cmd, end, got}
+use Rattle.commands.specs.Shown.{shown}
 use Rattle.blocks.specs.Stages.{admits, afterwards, stepped}
 use Rattle.blocks.specs.Drafts.{added, spoken}
-use Rattle.blocks.specs.declared.command.Command.{Command}
-use Rattle.blocks.specs.declared.command.Command.the-variants.{End}
+use Rattle.commands.specs.declared.command.Command.{Command}
+use Rattle.commands.specs.declared.command.Command.the-variants.{End}
 use Rattle.blocks.specs.declared.drafted.Draft.{Draft}
 use Rattle.blocks.specs.declared.stage.Stage.{Stage}
 use Rattle.blocks.specs.Readable.{Readable, Stops, isBegin}
 use Rattle.blocks.proofs.Drafting.{pairs-few, room, full, overflow, overflow-not}
-use Rattle.blocks.proofs.Steps.{whole-moves, shown-end}
+use Rattle.commands.proofs.Cuts.{whole-moves, shown-end}
 use Rattle.blocks.proofs.Walking.{Took, Walked, step-took, step-halts, walked-more, stops-step, stops-excess, stops-trailing, stops-missing, counted, finish}
 use Rattle.blocks.proofs.Fitting.{readable-fits}
 use Rattle.blocks.proofs.walk.read_block.Needs as need

@@ -7,14 +7,14 @@ use native.Mathlib.Omega.{arith}
 use lib.ListN.{length, take}
 use Rattle.std.proofs.shelf.Results.{err-from-errBy}
 use Rattle.terms.specs.declared.Grant.{Grant}
-use Rattle.blocks.specs.declared.command.Command.{Command}
-use Rattle.blocks.specs.declared.command.Command.the-variants.{Found, End}
+use Rattle.commands.specs.declared.command.Command.{Command}
+use Rattle.commands.specs.declared.command.Command.the-variants.{Found, End}
 use Rattle.blocks.specs.declared.stage.Stage.the-variants.{Grants}
-use Rattle.blocks.specs.Format.{Cmd, end, found, got, balances}
-use Rattle.blocks.specs.Shown.{shown}
+use Rattle.commands.specs.Format.{Cmd, end, found, got, balances}
+use Rattle.commands.specs.Shown.{shown}
 use Rattle.blocks.specs.Stages.{admits, stepped}
 use Rattle.blocks.specs.Readable.{Founds, Stops, isGrant}
-use Rattle.blocks.proofs.Steps.{whole-moves}
+use Rattle.commands.proofs.Cuts.{whole-moves}
 use Rattle.blocks.proofs.Walking.{Took, Gathered, step-took, step-halts, stops-step, stops-trailing, stops-missing, gathered-more, grant-fits, grant-only, founds}
 use Rattle.blocks.proofs.Fitting.{founds-fits}
 use Rattle.blocks.proofs.walk.read_founding.Needs as need

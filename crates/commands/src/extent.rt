@@ -1,6 +1,6 @@
 // Where the first block or founding of a longer run of bytes ends.
 ghost use Rattle.std.specs.Results.{Cases};
-ghost use Rattle.blocks.specs.Readable.{Ends, Endless};
+ghost use Rattle.commands.specs.Extent.{Ends, Endless};
 use crate::command::Command;
 use crate::parser::fault_at;
 use crate::parser::parse;

@@ -7,10 +7,10 @@ use Rattle.terms.specs.declared.Fault.{Fault}
 use Rattle.terms.specs.declared.Transaction.{Transaction}
 use Rattle.terms.specs.declared.Action.{Action}
 use Rattle.terms.specs.declared.Action.the-variants as act
-use Rattle.blocks.specs.declared.command.Command.{Command}
-use Rattle.blocks.specs.declared.command.Command.the-variants.{Begin, Price, Volume, Create, Pay, Place, Cancel, Found, End}
-use Rattle.blocks.specs.declared.command.Reading.{Reading}
-use Rattle.blocks.specs.Format.{Cmd, begin, price, volume, transaction, found, end, Outcome, got, refused, balances}
+use Rattle.commands.specs.declared.command.Command.{Command}
+use Rattle.commands.specs.declared.command.Command.the-variants.{Begin, Price, Volume, Create, Pay, Place, Cancel, Found, End}
+use Rattle.commands.specs.declared.command.Reading.{Reading}
+use Rattle.commands.specs.Format.{Cmd, begin, price, volume, transaction, found, end, Outcome, got, refused, balances}
 
 abbrev pub shown : Command → Cmd
 shown (Begin h p) = begin h (p .now)

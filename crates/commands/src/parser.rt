@@ -8,15 +8,15 @@ ghost use Rattle.std.specs.Results.{Cases};
 ghost use Rattle.std.specs.Holes.{between};
 ghost use Rattle.terms.specs.Bytes.{field};
 ghost use Rattle.terms.specs.Ranges.{areBalances};
-ghost use Rattle.blocks.specs.Format.{width, balances as eight, fit, whole, commandAt, widthAt, outcome, refused, cut, beginAt, priceAt, volumeAt, createAt, payAt, placeAt, cancelAt, foundAt};
-ghost use Rattle.blocks.specs.Shown.{shown, told};
+ghost use Rattle.commands.specs.Format.{width, balances as eight, fit, whole, commandAt, widthAt, outcome, refused, cut, beginAt, priceAt, volumeAt, createAt, payAt, placeAt, cancelAt, foundAt};
+ghost use Rattle.commands.specs.Shown.{shown, told};
 use crate::command::Command;
 use crate::command::Reading;
 use crate::ranges::in_range;
 use terms::Fault;
 
 // A fault at a byte place.
-pub(crate) fn fault_at(number: u8, at: usize) -> Fault
+pub fn fault_at(number: u8, at: usize) -> Fault
     ensures { λ r. ⌜ r ≡ record { number = number; first = at; second = 0 } ⌝ }
 {
     Fault {
@@ -208,7 +208,7 @@ fn operands<'a>(bytes: &'a [u8], at: usize) -> Command<'a>
 }
 
 // The command at a place, whatever its operands, and the place after it.
-pub(crate) fn parse<'a>(bytes: &'a [u8], at: usize) -> Result<Reading<'a>, Fault>
+pub fn parse<'a>(bytes: &'a [u8], at: usize) -> Result<Reading<'a>, Fault>
     ensures { λ r. ⌜ told r ≡ cut (now (bytes .entry)) at ⌝ }
 {
     if at >= bytes.len() {

@@ -6,7 +6,7 @@ use lib.ListN.{getD, drop}
 use Rattle.std.proofs.shelf.Lists.{at-drop-more, at-drop-all}
 use Rattle.std.proofs.shelf.Ways.{tells}
 use Rattle.terms.specs.Ranges.{every, isBalance}
-use Rattle.blocks.proofs.ranges.are_balances.Needs as need
+use Rattle.commands.proofs.ranges.are_balances.Needs as need
 
 pub loop-balance-again : need.loop-balance-again
 loop-balance-again c =

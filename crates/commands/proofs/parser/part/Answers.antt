@@ -3,7 +3,7 @@ use Prim.Native.Nat.{_+_, _-_, _≤_}
 use native.Mathlib.Omega.{arith}
 use Rattle.std.specs.shelf.Lists.{length, take, drop}
 use Rattle.std.proofs.shelf.Lists.{take-all, length-take, length-drop}
-use Rattle.blocks.proofs.parser.part.Needs as need
+use Rattle.commands.proofs.parser.part.Needs as need
 
 pub returns : need.returns
 returns g c =

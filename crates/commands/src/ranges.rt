@@ -2,8 +2,8 @@
 ghost use mathlib.Core.Path.{_≡_};
 ghost use lib.ListN.{length};
 ghost use Rattle.terms.specs.Ranges.{isPair, isAmount, isPrice, isBalance, every};
-ghost use Rattle.blocks.specs.Format.{balances as balancesAt, fit};
-ghost use Rattle.blocks.specs.Shown.{shown};
+ghost use Rattle.commands.specs.Format.{balances as balancesAt, fit};
+ghost use Rattle.commands.specs.Shown.{shown};
 use crate::command::Command;
 use crate::parser::long;
 
@@ -52,7 +52,7 @@ fn are_balances(balances: &[u64]) -> bool
     true
 }
 
-pub(crate) fn in_range(command: Command) -> bool
+pub fn in_range(command: Command) -> bool
     ensures { λ r. ⌜ r ≡ fit (shown (command .entry)) ⌝ }
 {
     match command {

@@ -3,10 +3,10 @@ use mathlib.Core.List.{_∷_, _++_, []}
 use Prim.Native.Nat.{_+_}
 use native.Mathlib.Omega.{arith}
 use Rattle.std.proofs.shelf.Results.{err-from-errBy}
-use Rattle.blocks.specs.Shown.{shown}
-use Rattle.blocks.specs.Readable.{Stand, Endless}
-use Rattle.blocks.proofs.Steps.{Got, cut-got, cut-refused, stand-push, unended-push, whole-moves, end-width, shown-end, endless}
-use Rattle.blocks.proofs.extent.length.Needs as need
+use Rattle.commands.specs.Shown.{shown}
+use Rattle.commands.specs.Extent.{Stand, Endless}
+use Rattle.commands.proofs.Cuts.{Got, cut-got, cut-refused, stand-push, unended-push, whole-moves, end-width, shown-end, endless}
+use Rattle.commands.proofs.extent.length.Needs as need
 
 pub returns-in-Break-reading : need.returns-in-Break-reading
 returns-in-Break-reading c =

@@ -6,7 +6,7 @@ use native.Mathlib.Omega.{arith}
 use Rattle.std.specs.shelf.Lists.{List, [], _∷_, length, getD, take, drop}
 use Rattle.std.proofs.shelf.Lists.{getD-take, getD-drop}
 use Rattle.terms.specs.Bytes.{field}
-use Rattle.blocks.specs.Format.{balances}
+use Rattle.commands.specs.Format.{balances}
 
 module _ (bs : List ℕ) (a n : ℕ) where
   pub field-part : (k i : ℕ) → i + k ≤ n → field k (take n (drop a bs)) i ≡ field k bs (a + i)
