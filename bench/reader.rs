@@ -101,7 +101,7 @@ fn part<const N: usize>(bytes: &[u8], at: usize) -> &[u8; N] {
     bytes[at..at + N].try_into().unwrap()
 }
 
-fn parse(bytes: &[u8], at: usize) -> Result<(Command<'_>, usize), Fault> {
+fn skip(bytes: &[u8], at: usize) -> Result<usize, Fault> {
     let Some(&letter) = bytes.get(at) else {
         return Err(fault_at(2, at));
     };
@@ -109,10 +109,16 @@ fn parse(bytes: &[u8], at: usize) -> Result<(Command<'_>, usize), Fault> {
     if width == 0 {
         return Err(fault_at(3, at));
     }
-    let Some(b) = bytes.get(at..at + width) else {
+    if bytes.len() - at < width {
         return Err(fault_at(2, at));
-    };
-    let command = match letter {
+    }
+    Ok(at + width)
+}
+
+fn parse(bytes: &[u8], at: usize) -> Result<(Command<'_>, usize), Fault> {
+    let next = skip(bytes, at)?;
+    let b = &bytes[at..next];
+    let command = match b[0] {
         b'B' => Command::Begin { height: word(b, 1), parent: part(b, 5) },
         b'P' => Command::Price { asset: b[1], price: word(b, 2) },
         b'V' => Command::Volume { sold: b[1], bought: b[2], amount: long(b, 3) },
@@ -123,7 +129,7 @@ fn parse(bytes: &[u8], at: usize) -> Result<(Command<'_>, usize), Fault> {
         b'G' => Command::Found { account: word(b, 1), balances: part(b, 5) },
         _ => Command::End,
     };
-    Ok((command, at + width))
+    Ok((command, next))
 }
 
 fn is_pair(sold: u8, bought: u8) -> bool {
@@ -297,8 +303,8 @@ fn read_founding(bytes: &[u8]) -> Result<Founding, Fault> {
 fn length(bytes: &[u8]) -> Result<usize, Fault> {
     let mut at = 0;
     while at < bytes.len() {
-        let (command, next) = parse(bytes, at)?;
-        if let Command::End = command {
+        let next = skip(bytes, at)?;
+        if bytes[at] == b'E' {
             return Ok(next);
         }
         at = next;

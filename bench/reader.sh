@@ -1,6 +1,7 @@
 #!/bin/sh
 # Times the reading of full blocks, 1,024 payments each: `inspect --totals`, and the same in ordinary Rust (bench/reader.rs, rustc -O).
-# Prints for each the least time of some runs, taken in turn on the same input, less the time that it takes for an input of no blocks.
+# Prints for each the least time of some runs, taken in turn on the same input: in all, and less that for the same bytes
+# behind one that is no letter, which are taken in and not read.
 # Usage: bench/reader.sh [RUNS]    (default 7). Needs rt, rustc, python3 and GNU date.
 set -eu
 cd "$(dirname "$0")/.."
@@ -16,31 +17,40 @@ import sys
 sys.path.insert(0, "examples")
 sys.dont_write_bytecode = True
 import make
-pays = b"".join(make.pay(1 + i % 3, 1 + i // 3, 1 + (i + 1) % 3, i % 8, 1 + i, b"memo") for i in range(1024))
-block = make.OPENING + make.VOLUMES + pays + b"E"
-with open(sys.argv[1], "wb") as out:
-    out.write(make.FOUNDING)
-    for _ in range(int(sys.argv[2])):
-        out.write(block)
+pays = b"".join(make.pay(1 + i % 3, 1 + i // 3, 1 + (i + 1) % 3, 0, 1 + i, b"memo") for i in range(1024))
+block = make.OPENING + pays + b"E"
+with open(sys.argv[1], "wb") as out, open(sys.argv[1] + ".unread", "wb") as unread:
+    unread.write(b"?")
+    for part in [make.FOUNDING] + [block] * int(sys.argv[2]):
+        out.write(part)
+        unread.write(part)
 PY
 
-# the microseconds that one run of a program takes; what it prints goes to a file
+# the microseconds that one run of a program takes on a file; what it prints goes to another
 timed() {
-    name=$1
-    shift
+    input=$1 name=$2
+    shift 2
     start=$(date +%s%N)
-    "$@" <"$work/input" >"$work/said.$name"
+    "$@" <"$input" >"$work/said.$name"
     end=$(date +%s%N)
     echo $(((end - start) / 1000))
 }
+less() {
+    if [ "$1" -lt "$2" ]; then echo "$1"; else echo "$2"; fi
+}
 
-ours=999999999 rust=999999999
+ours=999999999 rust=999999999 ours_in=999999999 rust_in=999999999
 for _ in $(seq "$runs"); do
-    t=$(timed ours target/bin/inspect --totals) && [ "$t" -ge "$ours" ] || ours=$t
-    t=$(timed rust "$work/rust") && [ "$t" -ge "$rust" ] || rust=$t
+    ours_in=$(less "$ours_in" "$(timed "$work/input.unread" none target/bin/inspect --totals)")
+    rust_in=$(less "$rust_in" "$(timed "$work/input.unread" none "$work/rust")")
+    ours=$(less "$ours" "$(timed "$work/input" ours target/bin/inspect --totals)")
+    rust=$(less "$rust" "$(timed "$work/input" rust "$work/rust")")
 done
 cmp "$work/said.ours" "$work/said.rust"
 
-printf '%-34s %10s %16s\n' "$blocks full blocks, best of $runs" ms 'us a block'
-printf '%-34s %10d %16s\n' 'inspect --totals (proved)' $((ours / 1000)) "$(echo "$ours $blocks" | awk '{printf "%.2f", $1 / $2}')"
-printf '%-34s %10d %16s\n' 'Rust, rustc -O' $((rust / 1000)) "$(echo "$rust $blocks" | awk '{printf "%.2f", $1 / $2}')"
+row() {
+    echo "$2 $3 $blocks" | awk -v name="$1" '{printf "%-30s %8.0f %12.0f %18.2f\n", name, $1 / 1000, ($1 - $2) / 1000, ($1 - $2) / $3}'
+}
+printf '%-30s %8s %12s %18s\n' "$blocks full blocks, best of $runs" ms 'reading, ms' 'reading a block, us'
+row 'inspect --totals (proved)' "$ours" "$ours_in"
+row 'Rust, rustc -O' "$rust" "$rust_in"

@@ -7,8 +7,9 @@ use native.Mathlib.Omega.{arith}
 use lib.Dec.{eqb, ltb, leb}
 use Rattle.std.specs.shelf.Lists.{List, [], _∷_, _++_, length, getD, Has}
 use Rattle.std.proofs.shelf.Elements.{has-push-cases}
+use Rattle.std.proofs.shelf.Tests.{cond-true, cond-false}
 use Rattle.std.proofs.shelf.Ways.{tells}
-use Rattle.commands.specs.Format.{Cmd, begin, price, volume, transaction, found, end, beginAt, priceAt, volumeAt, createAt, payAt, placeAt, cancelAt, foundAt, Outcome, got, refused, cut, commandAt, widthAt, lettered, whole, fit}
+use Rattle.commands.specs.Format.{Cmd, begin, price, volume, transaction, found, end, beginAt, priceAt, volumeAt, createAt, payAt, placeAt, cancelAt, foundAt, Outcome, got, refused, cut, Span, upto, broken, skipped, width, commandAt, widthAt, lettered, whole, fit}
 use Rattle.commands.specs.Extent.{Stand, Unended, Endless}
 use Rattle.commands.specs.Shown.{shown}
 use Rattle.commands.specs.declared.command.Command.{Command}
@@ -130,11 +131,67 @@ shown-end (code.Cancel s q x y l o) n e = never refl e
 shown-end (code.Found a b) n e = never refl e
 shown-end code.End n e = n refl
 
+-- what the place after a command says
+
+when-upto : (b d : Bool) (n m i : ℕ) → upto n ≡ cond b (upto m) (cond d (broken 3 i 0) (broken 2 i 0)) → (b ≡ true) × (m ≡ n)
+when-upto true d n m i e = (refl, (cc))
+when-upto false true n m i e = absurd (let z : _≡_ {A = ℕ} 0 1 = cc in omega arith)
+when-upto false false n m i e = absurd (let z : _≡_ {A = ℕ} 0 1 = cc in omega arith)
+
+pub skip-upto : (bs : List ℕ) (at n : ℕ) → upto n ≡ skipped bs at → (whole bs at ≡ true) × (at + widthAt bs at ≡ n)
+skip-upto bs at n e = when-upto (whole bs at) (ltb at (length bs) && not (lettered bs at)) n (at + widthAt bs at) at e
+
+when-broken : (b d : Bool) (m at k i j : ℕ) → broken k i j ≡ cond b (upto m) (cond d (broken 3 at 0) (broken 2 at 0))
+    → (b ≡ false) × (k ≡ cond d 3 2) × (i ≡ at) × (j ≡ 0)
+when-broken true d m at k i j e = absurd (let z : _≡_ {A = ℕ} 0 1 = cc in omega arith)
+when-broken false true m at k i j e = (refl, (cc), (cc), (cc))
+when-broken false false m at k i j e = (refl, (cc), (cc), (cc))
+
+pub skip-broken : (bs : List ℕ) (at k i j : ℕ) → broken k i j ≡ skipped bs at → Cut bs at k i j
+skip-broken bs at k i j e =
+    let p = when-broken (whole bs at) (ltb at (length bs) && not (lettered bs at)) (at + widthAt bs at) at k i j e in
+    record { broken = p .0; numbered = p .1; first = p .2; second = p .3 }
+
+numbers : (d : Bool) (at : ℕ) → refused (cond d 3 2) at 0 ≡ cond d (refused 3 at 0) (refused 2 at 0)
+numbers true at = refl
+numbers false at = refl
+
+-- the command, where only letters and widths were looked at so far
+pub cut-upto : (bs : List ℕ) (at n : ℕ) (c : Cmd) → upto n ≡ skipped bs at → c ≡ commandAt bs at → got c n ≡ cut bs at
+cut-upto bs at n c e is =
+    let p = skip-upto bs at n e in
+    let same : got c n ≡ got (commandAt bs at) (at + widthAt bs at) = λ i. got (is i) (sym (p .1) i) in
+    same ∙ sym (cond-true (whole bs at) _ _ (p .0))
+
+pub cut-broken : (bs : List ℕ) (at k i j : ℕ) → broken k i j ≡ skipped bs at → refused k i j ≡ cut bs at
+cut-broken bs at k i j e =
+    let q = skip-broken bs at k i j e in
+    let d = ltb at (length bs) && not (lettered bs at) in
+    let same : refused k i j ≡ refused (cond d 3 2) at 0 = λ t. refused (q .numbered t) (q .first t) (q .second t) in
+    same ∙ (numbers d at ∙ sym (cond-false (whole bs at) _ _ (q .broken)))
+
+-- the end command by its letter
+
+abbrev byLetter : Cmd → Cmd → Cmd → Cmd → Cmd → Cmd → Cmd → Cmd → ℕ → Cmd
+byLetter b p v a t o k g c =
+    cond (eqb c 66) b (cond (eqb c 80) p (cond (eqb c 86) v (cond (eqb c 65) a (cond (eqb c 84) t
+    (cond (eqb c 79) o (cond (eqb c 67) k (cond (eqb c 71) g end)))))))
+
+pub letter-end : (bs : List ℕ) (at : ℕ) → getD bs at 0 ≡ 69 → commandAt bs at ≡ end
+letter-end bs at e =
+    ap (byLetter (beginAt bs at) (priceAt bs at) (volumeAt bs at) (createAt bs at) (payAt bs at) (placeAt bs at) (cancelAt bs at) (foundAt bs at)) e
+
+one-byte : (c : ℕ) → width c ≡ 1 → c ≡ 69
+one-byte c e = grind (arith, tells)
+
+pub end-letter : (bs : List ℕ) (at : ℕ) → whole bs at ≡ true → (getD bs at 0 ≡ 69 → ⊥) → commandAt bs at ≡ end → ⊥
+end-letter bs at w n e = n (one-byte (getD bs at 0) (end-width bs at w e))
+
 -- good letters up to a place at which there is no whole command
 pub endless : (bs : List ℕ) (at : ℕ) (f : Fault) (cs : List Cmd) → Stand bs 0 cs at → Unended cs
-    → refused (f .number) (f .first) (f .second) ≡ cut bs at → Endless bs f
+    → broken (f .number) (f .first) (f .second) ≡ skipped bs at → Endless bs f
 endless bs at f cs s u e =
-    let q = cut-refused bs at _ _ _ e in
+    let q = skip-broken bs at _ _ _ e in
     record {
       commands = cs;
       stand = subst (Stand bs 0 cs) (sym (q .first)) s;

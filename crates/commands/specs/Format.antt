@@ -95,7 +95,17 @@ pub data Outcome : Type 0 where
   got : Cmd → (next : ℕ) → Outcome
   refused : (number first second : ℕ) → Outcome
 
--- letters and widths alone
+-- by letter and width alone: the place after the command
+pub data Span : Type 0 where
+  upto : (next : ℕ) → Span
+  broken : (number first second : ℕ) → Span
+
+abbrev pub skipped : List ℕ → ℕ → Span
+skipped bs at =
+    cond (whole bs at) (upto (at + widthAt bs at))
+    (cond (ltb at (length bs) && not (lettered bs at)) (broken 3 at 0) (broken 2 at 0))
+
+-- with the command there, whatever its operands
 abbrev pub cut : List ℕ → ℕ → Outcome
 cut bs at =
     cond (whole bs at) (got (commandAt bs at) (at + widthAt bs at))

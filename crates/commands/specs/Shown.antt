@@ -10,7 +10,7 @@ use Rattle.terms.specs.declared.Action.the-variants as act
 use Rattle.commands.specs.declared.command.Command.{Command}
 use Rattle.commands.specs.declared.command.Command.the-variants.{Begin, Price, Volume, Create, Pay, Place, Cancel, Found, End}
 use Rattle.commands.specs.declared.command.Reading.{Reading}
-use Rattle.commands.specs.Format.{Cmd, begin, price, volume, transaction, found, end, Outcome, got, refused, balances}
+use Rattle.commands.specs.Format.{Cmd, begin, price, volume, transaction, found, end, Outcome, got, refused, Span, upto, broken, balances}
 
 abbrev pub shown : Command → Cmd
 shown (Begin h p) = begin h (p .now)
@@ -26,3 +26,7 @@ shown End = end
 abbrev pub told : Result Reading Fault → Outcome
 told (Ok r) = got (shown (r .command)) (r .next)
 told (Err f) = refused (f .number) (f .first) (f .second)
+
+abbrev pub skippedTo : Result ℕ Fault → Span
+skippedTo (Ok n) = upto n
+skippedTo (Err f) = broken (f .number) (f .first) (f .second)

@@ -1,9 +1,8 @@
 // Where the first block or founding of a longer run of bytes ends.
 ghost use Rattle.std.specs.Results.{Cases};
 ghost use Rattle.commands.specs.Extent.{Ends, Endless};
-use crate::command::Command;
 use crate::parser::fault_at;
-use crate::parser::parse;
+use crate::parser::skip;
 use terms::Fault;
 
 // How many bytes there are up to and with the first end command; or fault 3, no letter of a command stands at a place;
@@ -13,11 +12,11 @@ pub fn length(bytes: &[u8]) -> Result<usize, Fault>
 {
     let mut at = 0;
     while at < bytes.len() {
-        let reading = parse(bytes, at)?;
-        if let Command::End = reading.command {
-            return Ok(reading.next);
+        let next = skip(bytes, at)?;
+        if bytes[at] == b'E' {
+            return Ok(next);
         }
-        at = reading.next;
+        at = next;
     }
     Err(fault_at(2, at))
 }

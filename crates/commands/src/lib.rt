@@ -12,5 +12,6 @@ pub use extent::length;
 pub use parser::fault_at;
 pub use parser::parse;
 pub use parser::read;
+pub use parser::skip;
 pub use ranges::eight_balances;
 pub use ranges::in_range;

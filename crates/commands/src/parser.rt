@@ -8,8 +8,8 @@ ghost use Rattle.std.specs.Results.{Cases};
 ghost use Rattle.std.specs.Holes.{between};
 ghost use Rattle.terms.specs.Bytes.{field};
 ghost use Rattle.terms.specs.Ranges.{areBalances};
-ghost use Rattle.commands.specs.Format.{width, balances as eight, fit, whole, commandAt, widthAt, outcome, refused, cut, beginAt, priceAt, volumeAt, createAt, payAt, placeAt, cancelAt, foundAt};
-ghost use Rattle.commands.specs.Shown.{shown, told};
+ghost use Rattle.commands.specs.Format.{width, balances as eight, fit, whole, commandAt, widthAt, outcome, refused, cut, skipped, beginAt, priceAt, volumeAt, createAt, payAt, placeAt, cancelAt, foundAt};
+ghost use Rattle.commands.specs.Shown.{shown, told, skippedTo};
 use crate::command::Command;
 use crate::command::Reading;
 use crate::ranges::in_range;
@@ -207,9 +207,9 @@ fn operands<'a>(bytes: &'a [u8], at: usize) -> Command<'a>
     }
 }
 
-// The command at a place, whatever its operands, and the place after it.
-pub fn parse<'a>(bytes: &'a [u8], at: usize) -> Result<Reading<'a>, Fault>
-    ensures { λ r. ⌜ told r ≡ cut (now (bytes .entry)) at ⌝ }
+// The place after the command at a place, of which only the letter and the width are looked at.
+pub fn skip(bytes: &[u8], at: usize) -> Result<usize, Fault>
+    ensures { λ r. ⌜ skippedTo r ≡ skipped (now (bytes .entry)) at ⌝ }
 {
     if at >= bytes.len() {
         return Err(fault_at(2, at));
@@ -221,9 +221,17 @@ pub fn parse<'a>(bytes: &'a [u8], at: usize) -> Result<Reading<'a>, Fault>
     if bytes.len() - at < width {
         return Err(fault_at(2, at));
     }
+    Ok(at + width)
+}
+
+// The command at a place, whatever its operands, and the place after it.
+pub fn parse<'a>(bytes: &'a [u8], at: usize) -> Result<Reading<'a>, Fault>
+    ensures { λ r. ⌜ told r ≡ cut (now (bytes .entry)) at ⌝ }
+{
+    let next = skip(bytes, at)?;
     Ok(Reading {
         command: operands(bytes, at),
-        next: at + width,
+        next,
     })
 }
 

@@ -71,7 +71,11 @@ fn show_part(rt: &LibcRuntime, style: Style, start: usize, bytes: &[u8]) -> io::
     if let Style::Commands = style {
         show_commands(rt, bytes)?;
     }
-    if start == 0 { show_founding(rt, bytes) } else { show_block(rt, bytes) }
+    if start == 0 {
+        show_founding(rt, bytes)
+    } else {
+        show_block(rt, bytes)
+    }
 }
 
 // The founding and the blocks in turn, until the bytes are used up or no further end can be found.
