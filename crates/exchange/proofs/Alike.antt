@@ -23,7 +23,7 @@ use Rattle.exchange.specs.Faults.Objection.{bad-grant, too-many-grants, excess
 use Rattle.exchange.specs.Commit.{Ordered, Founded, Committed, digestOf}
 use Rattle.exchange.specs.Life.{Rearranged}
 use Rattle.exchange.specs.Claims.{Order-free, One-outcome, Founding-order-free}
-use Rattle.exchange.proofs.Order.{key-is}
+use Rattle.terms.proofs.Order.{key-is}
 use Rattle.exchange.proofs.Rising.{alike}
 use Rattle.exchange.proofs.Causes.{one-least}
 use Rattle.exchange.proofs.Rearranged.{reorder, reordered, joins, trading-sums, sold-same, payout-same, leftOver-same, incoming-same, outgoing-same, back, rearranged-refl, faults-go, verdicts, sold-alike, paid-alike}

@@ -17,7 +17,7 @@ use Rattle.exchange.specs.State.{State, Counts}
 use Rattle.exchange.specs.Faults.Cause.{wrong-height, wrong-parent, uncleared, no-source, out-of-window, repeated, no-receiver, bad-account, no-offer, cancelled-twice, overdrawn, accounts-full, offers-full, excess-volume}
 use Rattle.exchange.specs.Faults.{Cause, Bad, Faulty, Least, Verdict, fault, number}
 use Rattle.exchange.specs.Commit.{counted}
-use Rattle.exchange.proofs.Order.{total}
+use Rattle.terms.proofs.Order.{total}
 
 pub faulty : (s : State) (b : Block) (c : Cause) (i j : ℕ) → Bad s b c i j → Faulty s b (fault (number c) i j)
 faulty s b c i j p = (c, refl, p)

@@ -9,7 +9,7 @@ use Rattle.std.proofs.shelf.Sums.{sumBy-cons}
 use Rattle.std.proofs.shelf.Tests.{cases-bool, cond-both, both-ways}
 use Rattle.std.proofs.shelf.Elements.{all-weaker}
 use Rattle.terms.specs.Order.{lower, same, Rising}
-use Rattle.exchange.proofs.Order.{transitive, irreflexive, total, same-refl, asymmetric}
+use Rattle.terms.proofs.Order.{transitive, irreflexive, total, same-refl, asymmetric}
 use Rattle.exchange.proofs.Rising.{sumBy-zero, sumBy-same}
 use Rattle.exchange.proofs.Sums.{if-true, if-false, Once, gone, once-less}
 

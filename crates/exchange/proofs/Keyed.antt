@@ -8,7 +8,7 @@ use Rattle.std.specs.shelf.Lists.{List, sumBy}
 use Rattle.std.proofs.shelf.Tests.{true≢false}
 use Rattle.std.proofs.shelf.Ways.{tells}
 use Rattle.terms.specs.Order.{same, under}
-use Rattle.exchange.proofs.Order.{same-is, same-sym}
+use Rattle.terms.proofs.Order.{same-is, same-sym}
 use Rattle.exchange.proofs.Rising.{sumBy-zero, sumBy-same, all-of, swapped}
 use Rattle.exchange.proofs.Sums.{under-const}
 

@@ -29,7 +29,7 @@ use Rattle.exchange.specs.Faults.Cause.{wrong-height, bad-account, no-offer, a
 use Rattle.exchange.specs.Faults.Objection.{bad-grant, too-many-grants, excess-grants}
 use Rattle.exchange.specs.Commit.{Ordered, Owned, Sound, Founded, Committed, counted}
 use Rattle.exchange.specs.Claims.{Sound-for-life}
-use Rattle.exchange.proofs.Order.{same-is}
+use Rattle.terms.proofs.Order.{same-is}
 use Rattle.exchange.proofs.Rising.{sumBy-same, sumBy-grows, sumBy-plus, all-of}
 use Rattle.exchange.proofs.Sums.{if-true, if-false, all-joined, all-by-has, sumBy-joined, sumBy-kept, ones, member-le, some-of, under-gone, lookup, rising-one, rising-once}
 use Rattle.exchange.proofs.Keyed.{and-only, by-keys}

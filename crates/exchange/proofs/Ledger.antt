@@ -21,7 +21,7 @@ use Rattle.exchange.specs.State.{State, remainder}
 use Rattle.exchange.specs.Trade.{placed, payments, placements, cancellations, incoming, outgoing, volumeOf, trading, sold, paid, payout, paidIn}
 use Rattle.exchange.specs.Faults.{Verdict}
 use Rattle.exchange.specs.Commit.{Owned, Committed}
-use Rattle.exchange.proofs.Order.{same-is, key-is}
+use Rattle.terms.proofs.Order.{same-is, key-is}
 use Rattle.exchange.proofs.Rising.{sumBy-same, sumBy-plus, all-of, swapped}
 use Rattle.exchange.proofs.Sums.{if-false, all-2, all-joined, all-by-has, some-of, under-gone, lookup, rising-once, under-const}
 use Rattle.exchange.proofs.Keyed.{and-nest, eqb-sym, by-keys}

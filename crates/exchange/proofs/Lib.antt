@@ -1,4 +1,3 @@
-pub mod Order
 pub mod Rising
 pub mod Sums
 pub mod Keyed

@@ -18,7 +18,7 @@ use Rattle.blocks.specs.Readable.{Block, pair}
 use Rattle.exchange.specs.State.{State}
 use Rattle.exchange.specs.Trade.{price, volume, eligible, eligibleIn, before, sold, payFor, paid, trading}
 use Rattle.exchange.specs.Claims.{Served}
-use Rattle.exchange.proofs.Order.{transitive, not-both, same-is, key-is}
+use Rattle.terms.proofs.Order.{transitive, not-both, same-is, key-is}
 use Rattle.exchange.proofs.Rising.{sumBy-grows, sumBy-plus, all-of}
 use Rattle.exchange.proofs.Sums.{if-false, some-of}
 use Rattle.exchange.proofs.Fit.{Fit}

@@ -9,7 +9,7 @@ use Rattle.std.proofs.shelf.Sums.{sumBy-cons}
 use Rattle.std.proofs.shelf.Tests.{cond-true, cond-false, cases-bool}
 use Rattle.std.proofs.shelf.Elements.{all-weaker}
 use Rattle.terms.specs.Order.{lower, same, Rising, under}
-use Rattle.exchange.proofs.Order.{total, transitive, apart, same-refl}
+use Rattle.terms.proofs.Order.{total, transitive, apart, same-refl}
 
 -- sums
 

@@ -9,7 +9,7 @@ use Rattle.std.proofs.shelf.Sums.{sumBy-cons, sumBy-append, getD-le-sumBy}
 use Rattle.std.proofs.shelf.Tests.{cond-true, cond-false, cases-bool, cases-lt}
 use Rattle.std.proofs.shelf.Elements.{all-weaker, all-append, all-has-itself, has-append-right}
 use Rattle.terms.specs.Order.{same, Rising, under}
-use Rattle.exchange.proofs.Order.{same-refl, same-is, same-sym}
+use Rattle.terms.proofs.Order.{same-refl, same-is, same-sym}
 use Rattle.exchange.proofs.Rising.{sumBy-zero, sumBy-same, all-of, absent}
 
 pub if-true : (b : Bool) (x y : ℕ) → b ≡ true → cond b x y ≡ x

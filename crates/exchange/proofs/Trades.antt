@@ -27,7 +27,7 @@ use Rattle.exchange.specs.Faults.{Verdict, inWindow, tag}
 use Rattle.exchange.specs.Faults.Cause.{uncleared, no-source, out-of-window, repeated, no-receiver, cancelled-twice, excess-volume}
 use Rattle.exchange.specs.Commit.{Owned}
 use Rattle.exchange.proofs.Causes.{faulty}
-use Rattle.exchange.proofs.Order.{same-is, key-is}
+use Rattle.terms.proofs.Order.{same-is, key-is}
 use Rattle.exchange.proofs.Rising.{sumBy-zero, sumBy-same, sumBy-grows, sumBy-plus, all-of}
 use Rattle.exchange.proofs.Sums.{if-true, if-false, all-joined, all-by-has, sumBy-joined, sumBy-kept, some-of, Once, under-gone, lookup, rising-once, sumBy-scale}
 use Rattle.exchange.proofs.Keyed.{and-last, and-flip, times, cond-le, by-keys}

@@ -22,7 +22,7 @@ use Rattle.exchange.specs.Faults.Cause.{wrong-height, wrong-parent, uncleared,
 use Rattle.exchange.specs.Commit.{Committed, counted, onePassed}
 use Rattle.exchange.specs.Cases.{start, after, trade, block, pay, offer, offers, keyOf, numbered, afterNumbered}
 use Rattle.exchange.proofs.Digests.{numbered-digest, committed-digest}
-use Rattle.exchange.proofs.Order.{same-is, key-is}
+use Rattle.terms.proofs.Order.{same-is, key-is}
 use Rattle.exchange.proofs.Sums.{if-false}
 use Rattle.exchange.proofs.Causes.{least}
 use Rattle.exchange.proofs.Trades.{sold-within}
