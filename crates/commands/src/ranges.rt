@@ -1,11 +1,12 @@
 // Whether a command's operands are in range.
 ghost use mathlib.Core.Path.{_≡_};
 ghost use lib.ListN.{length};
-ghost use Rattle.terms.specs.Ranges.{isPair, isAmount, isPrice, isBalance, every};
+ghost use Rattle.terms.specs.Ranges.{isPair, isAmount, isPrice};
 ghost use Rattle.commands.specs.Format.{balances as balancesAt, fit};
 ghost use Rattle.commands.specs.Shown.{shown};
 use crate::command::Command;
 use crate::parser::long;
+use terms::are_balances;
 
 fn is_pair(sold: u8, bought: u8) -> bool
     ensures { λ r. ⌜ r ≡ isPair sold bought ⌝ }
@@ -39,17 +40,6 @@ pub fn eight_balances(bytes: &[u8; 64]) -> [u64; 8]
         long(bytes, 48),
         long(bytes, 56),
     ]
-}
-
-fn are_balances(balances: &[u64]) -> bool
-    ensures { λ r. ⌜ r ≡ every isBalance (now (balances .entry)) ⌝ }
-{
-    for balance in balances {
-        if *balance > 68_719_476_735 {
-            return false;
-        }
-    }
-    true
 }
 
 pub fn in_range(command: Command) -> bool
