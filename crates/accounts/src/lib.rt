@@ -8,16 +8,13 @@ ghost use Prim.Native.Nat.{ℕ, _+_, _<_, _≤_};
 ghost use lib.ListN.{length, replicate};
 ghost use Rattle.std.specs.Results.{Cases};
 ghost use Rattle.terms.specs.Order.{name, above};
-ghost use Rattle.terms.specs.Ranges.{every, isBalance};
 ghost use Rattle.terms.specs.Holdings.{standing, floorAt, balanceAt, freeOf};
 ghost use Rattle.ordered.specs.Places.{told};
 ghost use Rattle.accounts.specs.Meaning.{Ledger};
 ghost use Rattle.accounts.specs.Changes.{openAnswer, balanceAnswer, floorAnswer, grantAnswer, Opened, BalanceSet, FloorSet, Granted};
 use terms::Account;
 use terms::Fault;
-
-// The largest balance, 2^36 - 1.
-pub const MAX_BALANCE: u64 = 68_719_476_735;
+use terms::are_balances;
 
 // As many accounts as a store may have, however much memory it is lent.
 pub const MAX_ACCOUNTS: usize = 65_536;
@@ -94,18 +91,6 @@ pub fn new_account(number: u32) -> Account
     }
 }
 
-// Whether all balances are in range.
-fn in_range(balances: &[u64]) -> bool
-    ensures { λ r. ⌜ r ≡ every isBalance (now (balances .entry)) ⌝ }
-{
-    for b in balances {
-        if *b > MAX_BALANCE {
-            return false;
-        }
-    }
-    true
-}
-
 // Opens an account with these balances. Refuses with 31 where one is out of range, else as `open` does, and never
 // otherwise; then nothing has changed.
 pub fn open_with<S: AccountStore>(
@@ -116,7 +101,7 @@ pub fn open_with<S: AccountStore>(
     ensures answer { λ r. ⌜ r ≡ grantAnswer (S·AccountStore .ledger (now (store .entry)) .store) number balances ⌝ }
     ensures after { λ r. ⌜ Cases r (λ _. Granted (S·AccountStore .ledger (now (store .entry)) .store) number balances (S·AccountStore .ledger (now (store .exit)) .store)) (λ _. S·AccountStore .ledger (now (store .exit)) .store ≡ S·AccountStore .ledger (now (store .entry)) .store) ⌝ }
 {
-    if !in_range(&balances) {
+    if !are_balances(&balances) {
         return Err(refusal(31));
     }
     store.open(number)?;

@@ -16,7 +16,7 @@ use Rattle.terms.specs.Ranges.{isPair, isAsset, isPrice, isAmount}
 use Rattle.blocks.specs.declared.drafted.Draft.{Draft}
 use Rattle.blocks.specs.declared.stage.Stage.{Stage}
 use Rattle.blocks.specs.declared.stage.Stage.the-variants.{Start, Price, FirstVolume, VolumeAbove, Transactions, Grants}
-use Rattle.blocks.specs.Format.{Cmd, begin, price, volume, transaction, found, end, fit}
+use Rattle.commands.specs.Format.{Cmd, begin, price, volume, transaction, found, end, fit}
 use Rattle.blocks.specs.Readable.{heights, parents, prices, volumes, transactions, pair}
 use Rattle.blocks.specs.Stages.{admits, afterwards}
 use Rattle.blocks.specs.Drafts.{added, Room}
@@ -268,6 +268,13 @@ one (volume v) = omega arith
 one (transaction t n) = omega arith
 one (found x) = omega arith
 one end = omega arith
+
+-- what the test for a transaction too many says
+pub overflow : (n : ℕ) (c : Cmd) → true ≡ ltb 1024 (n + length (transactions c)) → 1024 < n + length (transactions c)
+overflow n c e = ltb-true 1024 (n + length (transactions c)) (sym e)
+
+pub overflow-not : (n : ℕ) (c : Cmd) → false ≡ ltb 1024 (n + length (transactions c)) → n + length (transactions c) ≤ 1024
+overflow-not n c e = ltb-false 1024 (n + length (transactions c)) (sym e)
 
 -- a transaction that has no room comes after 1,024 others
 pub full : (n : ℕ) (c : Cmd) → n ≤ 1024 → 1024 < n + length (transactions c) → (n ≡ 1024) × (length (transactions c) ≡ 1)

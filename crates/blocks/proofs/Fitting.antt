@@ -15,9 +15,10 @@ use Rattle.terms.specs.declared.Grant.{Grant}
 use Rattle.terms.specs.Order.{lower}
 use Rattle.terms.specs.Ranges.{every, isPair, isPrice, isWord, fitVolume, fitTransaction, fitGrant}
 use Rattle.terms.specs.Holdings.{rising}
-use Rattle.blocks.specs.Format.{Cmd, begin, price, volume, transaction, found, end, beginAt, priceAt, volumeAt, createAt, payAt, placeAt, cancelAt, foundAt, commandAt, widthAt, whole, fit}
+use Rattle.commands.specs.Format.{Cmd, begin, price, volume, transaction, found, end, beginAt, priceAt, volumeAt, createAt, payAt, placeAt, cancelAt, foundAt, commandAt, widthAt, whole, fit}
 use Rattle.blocks.specs.Readable.{Block, Readable, Founds, Good, Stand, InTurn, follows, isBegin, isPriceOf, isVolumeAbove, isTransaction, isGrant, pair, heights, parents, prices, volumes, transactions, grants, fitBlock, fitGrants}
-use Rattle.blocks.proofs.Steps.{joined-push, whole-moves, wide, width-is}
+use Rattle.commands.proofs.Cuts.{whole-moves, wide, width-is}
+use Rattle.blocks.proofs.Steps.{joined-push}
 use Rattle.blocks.proofs.Drafting.{rankOf, rank-bound, rank-rises}
 
 and-true : (a b : Bool) → a ≡ true → b ≡ true → (a && b) ≡ true

@@ -12,11 +12,11 @@ use Rattle.std.proofs.shelf.Tests.{false≢true, both-ways, le-ltb, lt-ltb}
 use Rattle.std.proofs.shelf.Ways.{tells}
 use Rattle.terms.specs.declared.Fault.{Fault}
 use Rattle.terms.specs.declared.Grant.{Grant}
-use Rattle.blocks.specs.Format.{Cmd, end, commandAt, widthAt, lettered, whole, fit}
+use Rattle.commands.specs.Format.{Cmd, end, commandAt, widthAt, lettered, whole, fit}
 use Rattle.blocks.specs.Readable.{Block, Readable, Founds, Refused, Stops, Good, Stand, InTurn, after, follows, isBegin, isGrant, Unended, Flaw, number, Flawed, heights, parents, prices, volumes, transactions, grants}
 use Rattle.blocks.specs.Readable.Flaw.{missing, unknown, misplaced, unfit, excess, trailing}
 use Rattle.blocks.specs.Laws.{Read-one-way}
-use Rattle.blocks.proofs.Steps.{whole-moves}
+use Rattle.commands.proofs.Cuts.{whole-moves}
 pub use Rattle.blocks.proofs.Fitting.{readable-fits, founds-fits}
 
 -- Of two runs of commands from one place, one continues the other.

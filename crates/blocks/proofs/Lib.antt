@@ -1,4 +1,3 @@
-mod Fields
 mod Steps
 mod Drafting
 mod Walking

@@ -13,19 +13,20 @@ use Rattle.std.proofs.shelf.Ways.{tells}
 use Rattle.terms.specs.declared.Fault.{Fault}
 use Rattle.terms.specs.declared.Volume.{Volume}
 use Rattle.terms.specs.declared.Grant.{Grant}
-use Rattle.blocks.specs.declared.command.Command.{Command}
-use Rattle.blocks.specs.declared.command.Command.the-variants as code
-use Rattle.blocks.specs.Shown.{shown}
+use Rattle.commands.specs.declared.command.Command.{Command}
+use Rattle.commands.specs.declared.command.Command.the-variants as code
+use Rattle.commands.specs.Shown.{shown}
 use denote.Ref.{RefT}
 use Rattle.blocks.specs.declared.drafted.Draft.{Draft}
 use Rattle.blocks.specs.declared.stage.Stage.{Stage}
 use Rattle.blocks.specs.declared.stage.Stage.the-variants.{Start, Price, FirstVolume, VolumeAbove, Transactions, Grants}
-use Rattle.blocks.specs.Format.{Cmd, begin, price, volume, transaction, found, end, Outcome, got, refused, cut, commandAt, widthAt, lettered, whole, fit}
+use Rattle.commands.specs.Format.{Cmd, begin, price, volume, transaction, found, end, Outcome, got, refused, cut, commandAt, widthAt, lettered, whole, fit}
 use Rattle.blocks.specs.Readable.{Good, Stand, InTurn, after, follows, Unended, Flaw, number, Flawed, Stops, isBegin, isPriceOf, isVolumeAbove, isGrant, transactions, grants, heights, parents, Readable, Founds}
 use Rattle.blocks.specs.Readable.Flaw.{missing, unknown, misplaced, unfit, excess, trailing}
 use Rattle.blocks.specs.Stages.{admits, afterwards, stepped, taken}
 use Rattle.blocks.specs.Drafts.{added, spoken, blank, Room}
-use Rattle.blocks.proofs.Steps.{joined-push, stand-push, turn-push, after-push, unended-push, Got, cut-got, Cut, cut-refused, whole-moves, wide, width-is, never}
+use Rattle.commands.proofs.Cuts.{stand-push, unended-push, Got, cut-got, Cut, cut-refused, whole-moves, wide, width-is, never}
+use Rattle.blocks.proofs.Steps.{joined-push, turn-push, after-push}
 use Rattle.blocks.proofs.Drafting.{Says, says-more, Proper, Begun, pricedAt}
 
 -- what may follow a command is what the stage after it admits

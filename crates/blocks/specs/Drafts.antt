@@ -6,7 +6,7 @@ use Rattle.terms.specs.declared.Transaction.{Transaction}
 use Rattle.terms.specs.declared.Action.the-variants.{Create}
 use Rattle.blocks.specs.declared.drafted.Draft.{Draft}
 use Rattle.blocks.specs.Readable.{Block}
-use Rattle.blocks.specs.Format.{Cmd, begin, price, volume, transaction, found, end}
+use Rattle.commands.specs.Format.{Cmd, begin, price, volume, transaction, found, end}
 
 abbrev pub blank : Draft
 blank = record {

@@ -5,7 +5,7 @@ use Prim.Native.Nat.{ℕ}
 use Rattle.std.specs.shelf.Lists.{List}
 use Rattle.terms.specs.declared.Grant.{Grant}
 use Rattle.terms.specs.declared.Fault.{Fault}
-use Rattle.blocks.specs.Format.{Cmd}
+use Rattle.commands.specs.Format.{Cmd}
 use Rattle.blocks.specs.Readable.{Block, Readable, Founds, Refused, isBegin, isGrant, fitBlock, fitGrants}
 
 -- Bytes say one block at most, have one fault at most, and never both.

@@ -1,5 +1,3 @@
-pub mod Format
-pub mod Shown
 pub mod Readable
 pub mod Stages
 pub mod Drafts

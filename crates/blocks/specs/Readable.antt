@@ -12,7 +12,8 @@ use Rattle.terms.specs.declared.Fault.{Fault}
 use Rattle.terms.specs.Order.{lower}
 use Rattle.terms.specs.Ranges.{every, isPrice, isWord, fitVolume, fitTransaction, fitGrant}
 use Rattle.terms.specs.Holdings.{rising}
-use Rattle.blocks.specs.Format.{Cmd, begin, price, volume, transaction, found, end, commandAt, widthAt, lettered, whole, fit}
+pub use Rattle.commands.specs.Extent.{Stand, Unended}
+use Rattle.commands.specs.Format.{Cmd, begin, price, volume, transaction, found, end, commandAt, widthAt, lettered, whole, fit}
 
 -- What a block says.
 pub record Block : Type 0 where
@@ -91,11 +92,6 @@ after opens (c ∷ cs) = after (follows c) cs
 abbrev pub InTurn : (Cmd → Bool) → List Cmd → Type 0
 InTurn opens [] = Unit {0}
 InTurn opens (c ∷ cs) = (opens c ≡ true) × InTurn (follows c) cs
-
--- The commands cs stand one after another in the bytes, from one place to another.
-abbrev pub Stand : List ℕ → ℕ → List Cmd → ℕ → Type 0
-Stand bs at [] to = at ≡ to
-Stand bs at (c ∷ cs) to = (whole bs at ≡ true) × (commandAt bs at ≡ c) × Stand bs (at + widthAt bs at) cs to
 
 -- What commands say: the parts of a block, and the grants of a founding.
 
@@ -184,10 +180,6 @@ number unfit = 5
 number excess = 6
 number trailing = 7
 
--- no end among the commands so far
-abbrev pub Unended : List Cmd → Type 0
-Unended cs = Has cs end → ⊥
-
 abbrev pub Flawed : (Cmd → Bool) → List ℕ → List Cmd → ℕ → Flaw → Type 0
 -- the bytes end before a letter, or in the command of a letter
 Flawed opens bs cs at missing = Unended cs × (whole bs at ≡ false) × ((length bs ≤ at) ⊎ (lettered bs at ≡ true))
@@ -219,26 +211,6 @@ abbrev pub Refused : (Cmd → Bool) → List ℕ → Fault → Type 0
 Refused opens bs f =
     ((40000 < length bs) × (f ≡ record { number = 1; first = 0; second = 0 }))
     ⊎ ((length bs ≤ 40000) × Stops opens bs f)
-
--- The first end among commands of which only letters and widths matter: the bytes up to and with it, or fault 2 or 3.
-
-pub record Ends (bs : List ℕ) (n : ℕ) : Type 0 where
-  pub commands : List Cmd
-  pub place : ℕ
-  pub stand : Stand bs 0 commands place
-  pub unended : Unended commands
-  pub here : whole bs place ≡ true
-  pub last : commandAt bs place ≡ end
-  pub upto : n ≡ place + 1
-  pub within : n ≤ length bs
-
-pub record Endless (bs : List ℕ) (f : Fault) : Type 0 where
-  pub commands : List Cmd
-  pub stand : Stand bs 0 commands (f .first)
-  pub unended : Unended commands
-  pub broken : whole bs (f .first) ≡ false
-  pub numbered : f .number ≡ cond (ltb (f .first) (length bs) && not (lettered bs (f .first))) 3 2
-  pub second : f .second ≡ 0
 
 -- What is known of every readable block: all numbers in range, pairs of volumes rising.
 abbrev pub fitBlock : Block → Bool

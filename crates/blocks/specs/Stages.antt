@@ -5,7 +5,7 @@ use lib.Dec.{ltb}
 use Rattle.std.specs.shelf.Lists.{List, [], _∷_}
 use Rattle.blocks.specs.declared.stage.Stage.{Stage}
 use Rattle.blocks.specs.declared.stage.Stage.the-variants.{Start, Price, FirstVolume, VolumeAbove, Transactions, Grants}
-use Rattle.blocks.specs.Format.{Cmd, begin, price, volume, transaction, found, end, Outcome, got, refused, cut, fit}
+use Rattle.commands.specs.Format.{Cmd, begin, price, volume, transaction, found, end, Outcome, got, refused, cut, fit}
 use Rattle.blocks.specs.Readable.{isBegin, isPriceOf, isVolumeAbove, isTransaction, isGrant}
 
 -- what may come at a stage

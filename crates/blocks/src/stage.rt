@@ -1,14 +1,15 @@
 // How far a walk over commands has come: which command may be the next.
 ghost use mathlib.Core.Path.{_≡_};
 ghost use lib.ListN.{length};
-ghost use Rattle.blocks.specs.Format.{Cmd, end};
+ghost use Rattle.commands.specs.Format.{Cmd, end};
 ghost use Rattle.blocks.specs.Readable.{follows};
-ghost use Rattle.blocks.specs.Shown.{shown, told};
+ghost use Rattle.commands.specs.Shown.{shown, told};
 ghost use Rattle.blocks.specs.Stages.{admits, afterwards, stepped};
-use crate::command::Command;
-use crate::command::Reading;
-use crate::parser::parse;
-use crate::ranges::in_range;
+use commands::Command;
+use commands::Reading;
+use commands::fault_at;
+use commands::in_range;
+use commands::parse;
 use terms::Fault;
 
 #[derive(Clone, Copy)]
@@ -90,18 +91,10 @@ pub(crate) fn step<'a>(bytes: &'a [u8], at: usize, stage: Stage) -> Result<Readi
 {
     let reading = parse(bytes, at)?;
     if !stage.admits(reading.command) {
-        return Err(Fault {
-            number: 4,
-            first: at as u64,
-            second: 0,
-        });
+        return Err(fault_at(4, at));
     }
     if !in_range(reading.command) {
-        return Err(Fault {
-            number: 5,
-            first: at as u64,
-            second: 0,
-        });
+        return Err(fault_at(5, at));
     }
     Ok(reading)
 }

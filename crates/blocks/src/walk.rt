@@ -2,13 +2,14 @@
 ghost use Rattle.std.specs.Results.{Cases};
 ghost use Rattle.blocks.specs.Readable.{Readable, Founds, Refused, isBegin, isGrant};
 ghost use Rattle.blocks.specs.Decoded.{blockOf, grantsOf};
-use crate::command::Command;
 use crate::decoded::DecodedBlock;
 use crate::decoded::DecodedFounding;
 use crate::drafted::Draft;
-use crate::ranges::eight_balances;
 use crate::stage::Stage;
 use crate::stage::step;
+use commands::Command;
+use commands::eight_balances;
+use commands::fault_at;
 use terms::Fault;
 use terms::Grant;
 
@@ -31,30 +32,18 @@ pub fn read_block(bytes: &[u8]) -> Result<DecodedBlock, Fault>
         let reading = step(bytes, at, stage)?;
         if let Command::End = reading.command {
             if reading.next < bytes.len() {
-                return Err(Fault {
-                    number: 7,
-                    first: reading.next as u64,
-                    second: 0,
-                });
+                return Err(fault_at(7, reading.next));
             }
             return Ok(DecodedBlock { parts: draft });
         }
         if draft.overflows(reading.command) {
-            return Err(Fault {
-                number: 6,
-                first: at as u64,
-                second: 0,
-            });
+            return Err(fault_at(6, at));
         }
         draft.add(reading.command);
         stage = Stage::after(reading.command);
         at = reading.next;
     }
-    Err(Fault {
-        number: 2,
-        first: at as u64,
-        second: 0,
-    })
+    Err(fault_at(2, at))
 }
 
 // The founding that these bytes say; or a fault, looked for as in a block.
@@ -78,11 +67,7 @@ pub fn read_founding(bytes: &[u8]) -> Result<DecodedFounding, Fault>
         let reading = step(bytes, at, Stage::Grants)?;
         if let Command::End = reading.command {
             if reading.next < bytes.len() {
-                return Err(Fault {
-                    number: 7,
-                    first: reading.next as u64,
-                    second: 0,
-                });
+                return Err(fault_at(7, reading.next));
             }
             return Ok(DecodedFounding { grants, count });
         }
@@ -96,9 +81,5 @@ pub fn read_founding(bytes: &[u8]) -> Result<DecodedFounding, Fault>
         count += 1;
         at = reading.next;
     }
-    Err(Fault {
-        number: 2,
-        first: at as u64,
-        second: 0,
-    })
+    Err(fault_at(2, at))
 }

@@ -16,7 +16,7 @@ use Rattle.terms.specs.Order.{lower, same, Rising, name, under, above}
 use Rattle.terms.specs.Ranges.{every, fitAccount}
 use Rattle.terms.specs.Holdings.{Store, standing, soundStore}
 use Rattle.ordered.specs.Places.{Gap, At}
-use Rattle.ordered.proofs.Keys.{irreflexive, same-is}
+use Rattle.terms.proofs.Order.{irreflexive, same-is}
 use Rattle.ordered.proofs.Rising.{every-all, all-every, all-2, all-inserted, under-at, under-above, under-none}
 use Rattle.ordered.proofs.Shift.{put-is}
 use Rattle.accounts.specs.Changes.{Opened, BalanceSet, FloorSet}

@@ -17,7 +17,6 @@ ghost use Rattle.hashed_store.specs.Index.{number, lying, storeOf, laid, taken
 ghost use Rattle.hashed_store.specs.Probing.{start, turned, seen, has, Probed};
 use accounts::AccountStore;
 use accounts::MAX_ACCOUNTS;
-use accounts::MAX_BALANCE;
 use accounts::new_account;
 use accounts::refusal;
 use ordered::Amounts;
@@ -27,6 +26,7 @@ use ordered::records::NumberSortKey;
 use ordered::total;
 use terms::Account;
 use terms::Fault;
+use terms::MAX_BALANCE;
 
 mod entry;
 mod probe;

@@ -27,8 +27,21 @@ pub struct Totals {
 
 impl Totals {
     fn new() -> Totals {
-        let nothing = Moved { founded: 0, sold: 0, offered: 0, paid: 0 };
-        Totals { grants: 0, volumes: 0, creates: 0, pays: 0, offers: 0, cancels: 0, moved: [nothing; 8] }
+        let nothing = Moved {
+            founded: 0,
+            sold: 0,
+            offered: 0,
+            paid: 0,
+        };
+        Totals {
+            grants: 0,
+            volumes: 0,
+            creates: 0,
+            pays: 0,
+            offers: 0,
+            cancels: 0,
+            moved: [nothing; 8],
+        }
     }
 
     pub fn of_founding(grants: &[Grant]) -> Totals {
@@ -36,7 +49,10 @@ impl Totals {
         totals.grants = grants.len();
         for grant in grants {
             for asset in 0..8 {
-                totals.moved[asset].founded = totals.moved[asset].founded.saturating_add(grant.balances[asset]);
+                totals.moved[asset].founded = totals
+                    .moved[asset]
+                    .founded
+                    .saturating_add(grant.balances[asset]);
             }
         }
         totals
@@ -85,10 +101,26 @@ impl Totals {
 
 pub impl fmt::Display for Totals as TotalsDisplay {
     fn fmt<W: fmt::Write>(&self, f: &mut fmt::Formatter<W>) -> fmt::Result {
-        let Totals { grants, volumes, creates, pays, offers, cancels, moved } = *self;
-        write!(f, "       in all {grants} G, {volumes} V, {creates} A, {pays} T, {offers} O, {cancels} C")?;
+        let Totals {
+            grants,
+            volumes,
+            creates,
+            pays,
+            offers,
+            cancels,
+            moved,
+        } = *self;
+        write!(
+            f,
+            "       in all {grants} G, {volumes} V, {creates} A, {pays} T, {offers} O, {cancels} C"
+        )?;
         for (asset, m) in moved.iter().enumerate() {
-            let Moved { founded, sold, offered, paid } = *m;
+            let Moved {
+                founded,
+                sold,
+                offered,
+                paid,
+            } = *m;
             if founded > 0 {
                 write!(f, "; {founded} of asset {asset} founded")?;
             }

@@ -14,7 +14,7 @@ use Rattle.terms.specs.declared.Key.{Key}
 use Rattle.terms.specs.Order.{same, words}
 use Rattle.terms.specs.Ranges.{fitKey, isAmount}
 use Rattle.terms.specs.Holdings.{Book, amountAt}
-use Rattle.ordered.proofs.Keys.{same-sym}
+use Rattle.terms.proofs.Order.{same-sym}
 use Rattle.offers.specs.Changes.{placeAnswer, taken, replaceAnswer, Placed, Reduced, Replaced}
 use Rattle.offers.proofs.Sound.{SoundBook}
 use Rattle.offers.proofs.Replies.{place-made, replace-ends}

@@ -8,9 +8,8 @@ use Rattle.std.specs.shelf.Lists.{[], _∷_, length, All, sumBy}
 use Rattle.std.proofs.shelf.Elements.{all-weaker}
 use Rattle.std.proofs.shelf.Sums.{sumBy-le}
 use Rattle.std.proofs.shelf.Tests.{and-parts, and-from, ltb-true, leb-true, le-leb}
-use Rattle.terms.specs.declared.Key.{Key}
 use Rattle.terms.specs.declared.Offer.{Offer}
-use Rattle.terms.specs.Order.{Rising, place, words}
+use Rattle.terms.specs.Order.{Rising, place}
 use Rattle.terms.specs.Ranges.{fitKey, fitOffer, isAmount}
 use Rattle.terms.specs.Holdings.{Book, soundBook}
 use Rattle.ordered.proofs.Rising.{every-all, all-every, rising-is, is-rising}
@@ -49,13 +48,3 @@ part-fits b t ok =
     elim (t o) as (λ v. cond v (o .amount) 0 ≤ 68719476735) [ true ↦ offer-amount o e .1 | false ↦ omega arith ] in
     let h = sumBy-le (λ o. cond (t o) (o .amount) 0) 68719476735 (b .offers) (all-weaker _ _ each (b .offers) (ok .fit)) in
     omega (arith, h, mul-le-mul-right {m = length (b .offers)} {n = 65536} 68719476735 (omega (arith, ok .few, ok .small)))
-
--- a key is the numbers that it is compared by
-pub key-is : (j k : Key) → words j ≡ words k → j ≡ k
-key-is j k e =
-    let p : j .sold ≡ k .sold = cc in
-    let q : j .bought ≡ k .bought = cc in
-    let r : j .limit ≡ k .limit = cc in
-    let u : j .account ≡ k .account = cc in
-    let v : j .sequence ≡ k .sequence = cc in
-    λ i. record { sold = p i; bought = q i; limit = r i; account = u i; sequence = v i }

@@ -15,7 +15,7 @@ use Rattle.terms.specs.Order.{lower, same, Rising, under, above}
 use Rattle.terms.specs.Ranges.{every}
 use Rattle.terms.specs.Holdings.{rising}
 use Rattle.ordered.specs.Places.{Gap, Past}
-use Rattle.ordered.proofs.Keys.{apart, not-both, same-is, same-refl, same-sym, total, transitive, irreflexive}
+use Rattle.terms.proofs.Order.{apart, not-both, same-is, same-refl, same-sym, total, transitive, irreflexive}
 
 pub sumBy-zero : {X : Type 0} (f : X → ℕ) (xs : List X) → All (λ x. f x ≡ 0) xs → sumBy f xs ≡ 0
 sumBy-zero f [] h = refl

@@ -11,7 +11,7 @@ use Rattle.std.proofs.shelf.Elements.{all-weaker, all-more, all-getD}
 use Rattle.std.proofs.shelf.Tests.{cases-bool, both-ways}
 use Rattle.terms.specs.Order.{lower, Rising}
 use Rattle.ordered.specs.Places.{Gap, At, Cut, Past}
-use Rattle.ordered.proofs.Keys.{transitive, irreflexive, total, asymmetric}
+use Rattle.terms.proofs.Order.{transitive, irreflexive, total, asymmetric}
 use Rattle.ordered.proofs.Rising.{rising-around}
 
 -- the entries before `low` lie below k, those from `high` on do not

@@ -13,10 +13,11 @@ use Rattle.terms.specs.declared.Offer.{Offer}
 use Rattle.terms.specs.Order.{place, words, under}
 use Rattle.terms.specs.Ranges.{fitKey, isAmount, fitOffer}
 use Rattle.terms.specs.Holdings.{amountAt, soundBook}
+use Rattle.terms.proofs.Order.{key-is}
 use Rattle.ordered.specs.Places.{Gap, At}
 use Rattle.ordered.proofs.Rising.{under-at, under-gap}
 use Rattle.offers.specs.Changes.{Placed, Reduced}
-use Rattle.offers.proofs.Sound.{SoundBook, book-parts, offer-amount, key-is}
+use Rattle.offers.proofs.Sound.{SoundBook, book-parts, offer-amount}
 use Rattle.offers.proofs.Edits.{book-is, with-offers, placed, shrunk, taken}
 use Rattle.ordered_book.specs.Rows.{bookOf}
 

@@ -11,7 +11,6 @@ ghost use Rattle.terms.specs.Holdings.{soundStore};
 ghost use Rattle.sorted_store.specs.Rows.{storeOf, Found};
 use accounts::AccountStore;
 use accounts::MAX_ACCOUNTS;
-use accounts::MAX_BALANCE;
 use accounts::new_account;
 use accounts::refusal;
 use ordered::Amounts;
@@ -21,6 +20,7 @@ use ordered::records::AccountKeyed;
 use ordered::records::NumberSortKey;
 use terms::Account;
 use terms::Fault;
+use terms::MAX_BALANCE;
 
 #[derive(Drop)]
 pub struct SortedStore<'a> {

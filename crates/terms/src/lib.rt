@@ -1,6 +1,11 @@
 // The plain records of the exchange, shared by code and definitions: accounts, offers, transactions, volumes,
 // founding grants and faults. Assumes nothing. The ranges of their numbers stand in specs/Ranges.antt.
 
+mod ranges;
+
+pub use ranges::MAX_BALANCE;
+pub use ranges::are_balances;
+
 // What is kept of an account: its number, the highest sequence number that it has used, and its eight free balances.
 #[derive(Clone, Copy, PartialEq, Eq, Debug)]
 pub struct Account {

@@ -10,8 +10,7 @@ use Rattle.std.specs.shelf.Lists.{[], _∷_}
 use Rattle.std.proofs.shelf.Tests.{cases-order, cases-lt, cases-bool, cond-true, cond-false, eq-eqb, ne-eqb, eqb-true, lt-ltb, le-ltb, both-ways}
 use Rattle.terms.specs.declared.Key.{Key}
 use Rattle.terms.specs.Order.{lower, same, words}
-use Rattle.ordered.proofs.Keys.{same-is, same-refl}
-use Rattle.offers.proofs.Sound.{key-is}
+use Rattle.terms.proofs.Order.{same-is, same-refl, key-is}
 use Rattle.trie_book.specs.Codes.{code, keyOf, Bits}
 
 pub bits-of : (c : ℕ) → c < 2 ^ 102 → Bits (keyOf c)

@@ -17,10 +17,10 @@ use Rattle.terms.specs.declared.Offer.{Offer as Resting}
 use Rattle.terms.specs.Order.{Rising, under, above, place, words, lower, same}
 use Rattle.terms.specs.Ranges.{fitKey, fitOffer, isAmount}
 use Rattle.terms.specs.Holdings.{amountAt, offeredOf, upTo, soundBook}
-use Rattle.ordered.proofs.Keys.{same-is, total as total-order, transitive}
+use Rattle.terms.proofs.Order.{same-is, key-is, total as total-order, transitive}
 use Rattle.ordered.proofs.Rising.{sumBy-zero, all-2, all-parts, rising-join, under-above, under-each, under-none, under-absent, above-none}
 use Rattle.offers.specs.Changes.{Placed, Reduced}
-use Rattle.offers.proofs.Sound.{book-parts, book-from, amount-parts, key-is}
+use Rattle.offers.proofs.Sound.{book-parts, book-from, amount-parts}
 use Rattle.trie.specs.declared.node.Node.{Node}
 use Rattle.trie.specs.declared.node.Node.the-variants.{Idle, Offer, Branch′}
 use Rattle.trie.specs.Trie.{held, offers, within, ordered, Ordered, Whole, Next, placeable, reducible}

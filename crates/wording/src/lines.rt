@@ -1,6 +1,6 @@
 // One command in one line: its byte place, its letter, and its operands by name. What is sold and what is bought is said in full.
-use blocks::Command;
-use blocks::eight_balances;
+use commands::Command;
+use commands::eight_balances;
 use std::fmt;
 
 // Bytes as hexadecimal digits.
@@ -23,19 +23,17 @@ struct Balances([u64; 8]);
 
 impl fmt::Display for Balances as BalancesDisplay {
     fn fmt<W: fmt::Write>(&self, f: &mut fmt::Formatter<W>) -> fmt::Result {
-        let mut comma = "";
+        let mut first = true;
         let balances = self.0;
         for (asset, balance) in balances.iter().enumerate() {
             let amount = *balance;
             if amount > 0 {
+                let comma = if first { "" } else { "," };
                 write!(f, "{comma} {amount} of asset {asset}")?;
-                comma = ",";
+                first = false;
             }
         }
-        if comma.is_empty() {
-            write!(f, " nothing")?;
-        }
-        Ok(())
+        if first { write!(f, " nothing") } else { Ok(()) }
     }
 }
 
@@ -53,24 +51,74 @@ pub impl<'a> fmt::Display for Line<'a> as LineDisplay {
         match self.command {
             Command::Begin { height, parent } => {
                 let parent = Hex(parent);
-                write!(f, "B begins the block of height {height}, on the state with digest {parent}")
+                write!(
+                    f,
+                    "B begins the block of height {height}, on the state with digest {parent}"
+                )
             }
             Command::Price { asset, price } => write!(f, "P asset {asset} has price {price}"),
-            Command::Volume { sold, bought, amount } => write!(f, "V the block sells {amount} of asset {sold} for asset {bought}"),
-            Command::Create { source, sequence, account } => {
-                write!(f, "A account {source}, sequence {sequence}: opens account {account}")
+            Command::Volume {
+                sold,
+                bought,
+                amount,
+            } => write!(
+                f,
+                "V the block sells {amount} of asset {sold} for asset {bought}"
+            ),
+            Command::Create {
+                source,
+                sequence,
+                account,
+            } => {
+                write!(
+                    f,
+                    "A account {source}, sequence {sequence}: opens account {account}"
+                )
             }
-            Command::Pay { source, sequence, receiver, asset, amount, memo } => {
+            Command::Pay {
+                source,
+                sequence,
+                receiver,
+                asset,
+                amount,
+                memo,
+            } => {
                 let memo = Hex(memo);
-                write!(f, "T account {source}, sequence {sequence}: pays {amount} of asset {asset} to account {receiver}, memo {memo}")
+                write!(
+                    f,
+                    "T account {source}, sequence {sequence}: pays {amount} of asset {asset} to account {receiver}, memo {memo}"
+                )
             }
-            Command::Place { source, sequence, sold, bought, limit, amount } => {
-                write!(f, "O account {source}, sequence {sequence}: sells {amount} of asset {sold} for asset {bought}, ")?;
+            Command::Place {
+                source,
+                sequence,
+                sold,
+                bought,
+                limit,
+                amount,
+            } => {
+                write!(
+                    f,
+                    "O account {source}, sequence {sequence}: sells {amount} of asset {sold} for asset {bought}, "
+                )?;
                 write!(f, "at least {limit}/65536 of asset {bought} for each unit")
             }
-            Command::Cancel { source, sequence, sold, bought, limit, offer } => {
-                write!(f, "C account {source}, sequence {sequence}: cancels its offer of sequence {offer}, ")?;
-                write!(f, "which sells asset {sold} for asset {bought}, at least {limit}/65536 of asset {bought} for each unit")
+            Command::Cancel {
+                source,
+                sequence,
+                sold,
+                bought,
+                limit,
+                offer,
+            } => {
+                write!(
+                    f,
+                    "C account {source}, sequence {sequence}: cancels its offer of sequence {offer}, "
+                )?;
+                write!(
+                    f,
+                    "which sells asset {sold} for asset {bought}, at least {limit}/65536 of asset {bought} for each unit"
+                )
             }
             Command::Found { account, balances } => {
                 let balances = Balances(eight_balances(balances));

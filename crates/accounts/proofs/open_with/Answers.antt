@@ -12,7 +12,7 @@ use Rattle.accounts.proofs.open_with.Needs as need
 pub returns-in-Break-set-balance : need.returns-in-Break-set-balance
 returns-in-Break-set-balance g c =
     absurd (never
-    (settable _ _ _ (c .args .number) (c .args .balances) (c .loop-x .x) (omega arith) (sym (c .in-range .ensures) ∙ c .if-not-in-range .left) (omega arith) (c .in-Continue-open .ensures tt .after) (c .loop-x .inv)
+    (settable _ _ _ (c .args .number) (c .args .balances) (c .loop-x .x) (omega arith) (sym (c .are-balances .ensures) ∙ c .if-not-are-balances .left) (omega arith) (c .in-Continue-open .ensures tt .after) (c .loop-x .inv)
     ∙ sym (c .set-balance .ensures .answer) ∙ c .in-Break-set-balance .was tt))
 
 pub loop-x-again : need.loop-x-again
@@ -21,7 +21,7 @@ loop-x-again g c = filled-more _ _ _ (c .args .number) (c .args .balances) (c .l
 pub returns : need.returns
 returns g c =
     let eight : length (c .args .balances) ≡ 8 = omega arith in
-    let fit : every isBalance (c .args .balances) ≡ true = sym (c .in-range .ensures) ∙ c .if-not-in-range .left in
+    let fit : every isBalance (c .args .balances) ≡ true = sym (c .are-balances .ensures) ∙ c .if-not-are-balances .left in
     let s = g .S·AccountStore .ledger (c .args .store .now) .store in
     let last : c .loop-x .x ≡ 8 = omega arith in
     record {

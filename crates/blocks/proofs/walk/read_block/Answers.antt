@@ -5,18 +5,17 @@ use lib.ListN.{length}
 use Prim.Native.Nat.{ℕ, _+_, _≤_, _<_}
 use native.Mathlib.Omega.{arith}
 use Rattle.std.proofs.shelf.Results.{err-from-errBy}
-use Rattle.std.proofs.shelf.Tests.{ltb-true, ltb-false}
-use Rattle.blocks.specs.Format.{Cmd, end, got}
-use Rattle.blocks.specs.Shown.{shown}
+use Rattle.commands.specs.Format.{Cmd, end, got}
+use Rattle.commands.specs.Shown.{shown}
 use Rattle.blocks.specs.Stages.{admits, afterwards, stepped}
 use Rattle.blocks.specs.Drafts.{added, spoken}
-use Rattle.blocks.specs.declared.command.Command.{Command}
-use Rattle.blocks.specs.declared.command.Command.the-variants.{End}
+use Rattle.commands.specs.declared.command.Command.{Command}
+use Rattle.commands.specs.declared.command.Command.the-variants.{End}
 use Rattle.blocks.specs.declared.drafted.Draft.{Draft}
 use Rattle.blocks.specs.declared.stage.Stage.{Stage}
-use Rattle.blocks.specs.Readable.{Readable, isBegin}
-use Rattle.blocks.proofs.Drafting.{pairs-few, room, full}
-use Rattle.blocks.proofs.Steps.{whole-moves, shown-end}
+use Rattle.blocks.specs.Readable.{Readable, Stops, isBegin}
+use Rattle.blocks.proofs.Drafting.{pairs-few, room, full, overflow, overflow-not}
+use Rattle.commands.proofs.Cuts.{whole-moves, shown-end}
 use Rattle.blocks.proofs.Walking.{Took, Walked, step-took, step-halts, walked-more, stops-step, stops-excess, stops-trailing, stops-missing, counted, finish}
 use Rattle.blocks.proofs.Fitting.{readable-fits}
 use Rattle.blocks.proofs.walk.read_block.Needs as need
@@ -47,7 +46,8 @@ returns-then-reading-bytes c =
     let n = c .in-Continue-reading .reading .next in
     let t = step-took bs at (admits g) (shown (c .in-Continue-reading .reading .command)) n (c .in-Continue-reading .ensures tt) in
     let u = subst (λ x. Took bs at (admits g) (shown x) n) (c .in-End .is) t in
-    inr (i .0, stops-trailing isBegin bs (i .1) at g (i .2 .reached) n u (c .if-reading-bytes .taken))
+    inr
+    (i .0, subst (Stops isBegin bs) (sym (c .fault-at .ensures)) (stops-trailing isBegin bs (i .1) at g (i .2 .reached) n u (c .if-reading-bytes .taken)))
 
 pub ghost-result : need.ghost-result
 ghost-result c =
@@ -75,8 +75,12 @@ returns-then-overflows c =
     let x = shown (c .in-Continue-reading .reading .command) in
     let n = c .in-Continue-reading .reading .next in
     let t = step-took bs at (admits g) x n (c .in-Continue-reading .ensures tt) in
-    let f = full (c .loop-at .draft .count) x (i .2 .says .few) (ltb-true 1024 _ (sym (c .if-overflows .ensures tt))) in
-    inr (i .0, stops-excess isBegin bs (i .1) at g (i .2 .reached) x n t (counted bs (i .1) at g (c .loop-at .draft) (i .2) ∙ f .0) (f .1))
+    let f = full (c .loop-at .draft .count) x (i .2 .says .few) (overflow (c .loop-at .draft .count) x (c .if-overflows .ensures tt)) in
+    inr (
+      i .0,
+      subst (Stops isBegin bs) (sym (c .fault-at-then-overflows .ensures))
+          (stops-excess isBegin bs (i .1) at g (i .2 .reached) x n t (counted bs (i .1) at g (c .loop-at .draft) (i .2) ∙ f .0) (f .1)),
+    )
 
 pub add-requires : need.add-requires
 add-requires c κs =
@@ -87,7 +91,7 @@ add-requires c κs =
     let x = shown (c .in-Continue-reading .reading .command) in
     let t = step-took bs at (admits g) x _ (c .in-Continue-reading .ensures tt) in
     room (c .loop-at .draft) (i .1) g x (i .2 .says) (t .admitted) (t .ranged)
-    (ltb-false 1024 _ (sym (c .if-overflows .ensures tt)))
+    (overflow-not (c .loop-at .draft .count) x (c .if-overflows .ensures tt))
 
 pub loop-at-less : need.loop-at-less
 loop-at-less c =
@@ -110,7 +114,7 @@ loop-at-again c =
     let x = shown (c .in-Continue-reading .reading .command) in
     let n = c .in-Continue-reading .reading .next in
     let t = step-took bs at (admits g) x n (c .in-Continue-reading .ensures tt) in
-    let w = walked-more bs (i .1) at g d (i .2) x n t (shown-end _ (c .in-rest .not-End)) (ltb-false 1024 _ (sym (c .if-overflows .ensures tt))) in (
+    let w = walked-more bs (i .1) at g d (i .2) x n t (shown-end _ (c .in-rest .not-End)) (overflow-not (c .loop-at .draft .count) x (c .if-overflows .ensures tt)) in (
       i .0,
       i .1 ++ x ∷ [],
       subst (λ h. Walked bs (i .1 ++ x ∷ []) n h (c .add .last .self)) (sym (c .after-stage .ensures))
@@ -119,5 +123,10 @@ loop-at-again c =
 
 pub returns : need.returns
 returns c =
+    let bs = c .args .bytes .now in
     let i = c .loop-at .inv in
-    inr (i .0, stops-missing isBegin (c .args .bytes .now) (i .1) (c .loop-at .at) (c .loop-at .stage) (i .2 .reached) (c .loop-at-test .left))
+    inr (
+      i .0,
+      subst (Stops isBegin bs) (sym (c .fault-at-2 .ensures))
+          (stops-missing isBegin bs (i .1) (c .loop-at .at) (c .loop-at .stage) (i .2 .reached) (c .loop-at-test .left)),
+    )

@@ -7,14 +7,14 @@ use native.Mathlib.Omega.{arith}
 use lib.ListN.{length, take}
 use Rattle.std.proofs.shelf.Results.{err-from-errBy}
 use Rattle.terms.specs.declared.Grant.{Grant}
-use Rattle.blocks.specs.declared.command.Command.{Command}
-use Rattle.blocks.specs.declared.command.Command.the-variants.{Found, End}
+use Rattle.commands.specs.declared.command.Command.{Command}
+use Rattle.commands.specs.declared.command.Command.the-variants.{Found, End}
 use Rattle.blocks.specs.declared.stage.Stage.the-variants.{Grants}
-use Rattle.blocks.specs.Format.{Cmd, end, found, got, balances}
-use Rattle.blocks.specs.Shown.{shown}
+use Rattle.commands.specs.Format.{Cmd, end, found, got, balances}
+use Rattle.commands.specs.Shown.{shown}
 use Rattle.blocks.specs.Stages.{admits, stepped}
-use Rattle.blocks.specs.Readable.{Founds, isGrant}
-use Rattle.blocks.proofs.Steps.{whole-moves}
+use Rattle.blocks.specs.Readable.{Founds, Stops, isGrant}
+use Rattle.commands.proofs.Cuts.{whole-moves}
 use Rattle.blocks.proofs.Walking.{Took, Gathered, step-took, step-halts, stops-step, stops-trailing, stops-missing, gathered-more, grant-fits, grant-only, founds}
 use Rattle.blocks.proofs.Fitting.{founds-fits}
 use Rattle.blocks.proofs.walk.read_founding.Needs as need
@@ -43,7 +43,8 @@ returns-then-reading-bytes c =
     let n = c .in-Continue-reading .reading .next in
     let t = step-took bs at (admits Grants) (shown (c .in-Continue-reading .reading .command)) n (c .in-Continue-reading .ensures tt) in
     let u = subst (λ x. Took bs at (admits Grants) (shown x) n) (c .in-End .is) t in
-    inr (i .0, stops-trailing isGrant bs (i .1) at Grants (i .2 .reached) n u (c .if-reading-bytes .taken))
+    inr
+    (i .0, subst (Stops isGrant bs) (sym (c .fault-at .ensures)) (stops-trailing isGrant bs (i .1) at Grants (i .2 .reached) n u (c .if-reading-bytes .taken)))
 
 pub ghost-result : need.ghost-result
 ghost-result c =
@@ -99,3 +100,13 @@ loop-at-again c =
     (c .in-Continue-reading .ensures tt) (c .in-Found .is) (c .eight-balances .ensures) in
     let g : Grant = record { account = c .in-Found .account; balances = c .eight-balances .result } in
     (i .0, i .1 ++ found g ∷ [], gathered-more (c .args .bytes .now) (i .1) (c .loop-at .at) (c .loop-at .grants) (c .loop-at .count) (i .2) g _ t (i .0))
+
+pub returns : need.returns
+returns c =
+    let bs = c .args .bytes .now in
+    let i = c .loop-at .inv in
+    inr (
+      i .0,
+      subst (Stops isGrant bs) (sym (c .fault-at-2 .ensures))
+          (stops-missing isGrant bs (i .1) (c .loop-at .at) Grants (i .2 .reached) (c .loop-at-test .left)),
+    )

@@ -1,7 +1,7 @@
 use Prim.Native.Nat.{_-_, _≤_}
 use mathlib.Core.List.{List}
 use lib.ListN.{length}
-use Rattle.blocks.specs.Format.{Cmd}
+use Rattle.commands.specs.Format.{Cmd}
 use Rattle.blocks.proofs.Walking.{Gathered}
 use Rattle.blocks.proofs.walk.read_founding.Given as given
 

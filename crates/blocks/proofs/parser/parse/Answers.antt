@@ -1,7 +1,0 @@
-use borrow.Author.Needs.{needs}
-use native.Mathlib.Omega.{arith}
-use Rattle.std.proofs.shelf.Ways.{tells}
-use Rattle.blocks.proofs.parser.parse.Needs as need
-
-pub returns : need.returns
-returns c = grind (arith, tells)

@@ -1,0 +1,3 @@
+pub mod Format
+pub mod Shown
+pub mod Extent
