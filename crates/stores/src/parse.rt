@@ -91,17 +91,24 @@ fn of_accounts(word: &str, operands: &Operands) -> Option<AccountAsk> {
                 value: operands.word(1)?,
             })
         }
-        "stands" => {
-            operands.only(1)?;
-            Some(AccountAsk::Stands {
-                number: operands.word(0)?,
-            })
-        }
         "balance" => {
             operands.only(2)?;
             Some(AccountAsk::Balance {
                 number: operands.word(0)?,
                 asset: operands.byte(1)?,
+            })
+        }
+        _ => of_account(word, operands),
+    }
+}
+
+// The questions with one operand, or none.
+fn of_account(word: &str, operands: &Operands) -> Option<AccountAsk> {
+    match word {
+        "stands" => {
+            operands.only(1)?;
+            Some(AccountAsk::Stands {
+                number: operands.word(0)?,
             })
         }
         "floor" => {
@@ -160,9 +167,22 @@ fn of_offers(word: &str, operands: &Operands) -> Option<OfferAsk> {
                 units: operands.long(10)?,
             })
         }
+        _ => of_offer(word, operands),
+    }
+}
+
+// The questions.
+fn of_offer(word: &str, operands: &Operands) -> Option<OfferAsk> {
+    match word {
         "amount" => {
             operands.only(5)?;
             Some(OfferAsk::Amount {
+                key: operands.key()?,
+            })
+        }
+        "next-offer" => {
+            operands.only(5)?;
+            Some(OfferAsk::Next {
                 key: operands.key()?,
             })
         }
@@ -178,12 +198,6 @@ fn of_offers(word: &str, operands: &Operands) -> Option<OfferAsk> {
                 sold: operands.byte(0)?,
                 bought: operands.byte(1)?,
                 limit: operands.word(2)?,
-            })
-        }
-        "next-offer" => {
-            operands.only(5)?;
-            Some(OfferAsk::Next {
-                key: operands.key()?,
             })
         }
         _ => of_book(word, operands),
