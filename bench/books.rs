@@ -46,19 +46,19 @@ fn map(count: u32, repeat: u32, lookups: u32, walks: u32, reaches: u32, scattere
                 sum = sum.wrapping_add(1);
             }
         }
-        let mut seed = 1u32;
+        let mut state = 1u32;
         for _ in 0..lookups {
-            seed = seed.wrapping_mul(1_664_525).wrapping_add(1_013_904_223);
-            let key = nth((seed >> 8) % count, scattered);
+            state = state.wrapping_mul(1_664_525).wrapping_add(1_013_904_223);
+            let key = nth((state >> 8) % count, scattered);
             sum = sum.wrapping_add(map.get(&key).copied().unwrap_or(0));
         }
         for _ in 0..walks {
             sum = sum.wrapping_add(map.keys().fold(0u64, |s, k| s.wrapping_add(k.limit as u64)));
         }
-        let mut seed = 1u32;
+        let mut state = 1u32;
         for _ in 0..reaches {
-            seed = seed.wrapping_mul(1_664_525).wrapping_add(1_013_904_223);
-            let key = nth((seed >> 8) % count, scattered);
+            state = state.wrapping_mul(1_664_525).wrapping_add(1_013_904_223);
+            let key = nth((state >> 8) % count, scattered);
             let low = Key { limit: 0, account: 0, sequence: 0, ..key };
             let high = Key { account: u32::MAX, sequence: u32::MAX, ..key };
             sum = sum.wrapping_add(map.range(low..=high).map(|(_, a)| *a).sum::<u64>());

@@ -72,11 +72,11 @@ fn exercise<M: Map>(count: u32, repeat: u32, lookups: u32, walks: u32, scattered
             map.open(nth(i + 1, scattered));
         }
         sum = sum.wrapping_add(count as u64);
-        let mut seed = 1u32;
+        let mut state = 1u32;
         for _ in 0..lookups {
-            seed = seed.wrapping_mul(1_664_525).wrapping_add(1_013_904_223);
-            let number = nth((seed >> 8) % count + 1, scattered);
-            let balance = map.get(number).map_or(0, |a| a.balances[(seed & 7) as usize]);
+            state = state.wrapping_mul(1_664_525).wrapping_add(1_013_904_223);
+            let number = nth((state >> 8) % count + 1, scattered);
+            let balance = map.get(number).map_or(0, |a| a.balances[(state & 7) as usize]);
             sum = sum.wrapping_add(balance);
         }
         for _ in 0..walks {

@@ -66,10 +66,10 @@ fn place_all<B: OfferBook>(book: &mut B, count: u32, scattered: bool) -> u64 {
 
 fn look_up<B: OfferBook>(book: &B, count: u32, times: u32, scattered: bool) -> u64 {
     let mut sum: u64 = 0;
-    let mut seed: u32 = 1;
+    let mut state: u32 = 1;
     for _ in 0..times {
-        seed = seed.wrapping_mul(1_664_525).wrapping_add(1_013_904_223);
-        let i = if count > 0 { (seed >> 8) % count } else { 0 };
+        state = state.wrapping_mul(1_664_525).wrapping_add(1_013_904_223);
+        let i = if count > 0 { (state >> 8) % count } else { 0 };
         sum = sum.wrapping_add(book.amount(nth(i, scattered)));
     }
     sum
@@ -92,10 +92,10 @@ fn walk<B: OfferBook>(book: &B, times: u32) -> u64 {
 
 fn reach<B: OfferBook>(book: &B, count: u32, times: u32, scattered: bool) -> u64 {
     let mut sum: u64 = 0;
-    let mut seed: u32 = 1;
+    let mut state: u32 = 1;
     for _ in 0..times {
-        seed = seed.wrapping_mul(1_664_525).wrapping_add(1_013_904_223);
-        let i = if count > 0 { (seed >> 8) % count } else { 0 };
+        state = state.wrapping_mul(1_664_525).wrapping_add(1_013_904_223);
+        let i = if count > 0 { (state >> 8) % count } else { 0 };
         let key = nth(i, scattered);
         sum = sum.wrapping_add(book.up_to(key.sold, key.bought, key.limit));
     }

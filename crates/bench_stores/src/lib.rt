@@ -38,12 +38,12 @@ fn open_all<S: AccountStore>(store: &mut S, count: u32, scattered: bool) -> u64 
 
 fn look_up<S: AccountStore>(store: &S, count: u32, times: u32, scattered: bool) -> u64 {
     let mut sum: u64 = 0;
-    let mut seed: u32 = 1;
+    let mut state: u32 = 1;
     for _ in 0..times {
-        seed = seed.wrapping_mul(1_664_525).wrapping_add(1_013_904_223);
-        let i = if count > 0 { (seed >> 8) % count } else { 0 };
+        state = state.wrapping_mul(1_664_525).wrapping_add(1_013_904_223);
+        let i = if count > 0 { (state >> 8) % count } else { 0 };
         let number = nth(i.wrapping_add(1), scattered);
-        sum = sum.wrapping_add(store.balance(number, (seed & 7) as u8));
+        sum = sum.wrapping_add(store.balance(number, (state & 7) as u8));
     }
     sum
 }
