@@ -93,7 +93,7 @@ pub(crate) fn step<'a>(bytes: &'a [u8], at: usize, stage: Stage) -> Result<Readi
     if !stage.admits(reading.command) {
         return Err(fault_at(4, at));
     }
-    if !in_range(reading.command) {
+    if !in_range(&reading.command) {
         return Err(fault_at(5, at));
     }
     Ok(reading)

@@ -241,7 +241,7 @@ pub fn read<'a>(bytes: &'a [u8], at: usize) -> Result<Reading<'a>, Fault>
     ensures { λ r. ⌜ told r ≡ outcome (now (bytes .entry)) at ⌝ }
 {
     let reading = parse(bytes, at)?;
-    if !in_range(reading.command) {
+    if !in_range(&reading.command) {
         return Err(fault_at(5, at));
     }
     Ok(reading)

@@ -1,7 +1,7 @@
 // Whether a command's operands are in range.
 ghost use mathlib.Core.Path.{_≡_};
 ghost use lib.ListN.{length};
-ghost use Rattle.terms.specs.Ranges.{isPair, isAmount, isPrice};
+ghost use Rattle.terms.specs.Ranges.{isPair, isAmount, isPrice, isWord, isNumber};
 ghost use Rattle.commands.specs.Format.{balances as balancesAt, fit};
 ghost use Rattle.commands.specs.Shown.{shown};
 use crate::command::Command;
@@ -42,11 +42,26 @@ pub fn eight_balances(bytes: &[u8; 64]) -> [u64; 8]
     ]
 }
 
-pub fn in_range(command: Command) -> bool
-    ensures { λ r. ⌜ r ≡ fit (shown (command .entry)) ⌝ }
+// A number of 32 bits is one.
+fn is_word(number: u32) -> bool
+    ensures { λ r. ⌜ r ≡ isWord number ⌝ }
 {
-    match command {
-        Command::Begin { .. } | Command::End => true,
+    true
+}
+
+// An account number or a limit.
+fn is_number(number: u32) -> bool
+    ensures { λ r. ⌜ r ≡ isNumber number ⌝ }
+{
+    number > 0
+}
+
+// Whether all operands of the command are in range. It is looked at where it lies, since a copy costs more than the test.
+pub fn in_range(command: &Command) -> bool
+    ensures { λ r. ⌜ r ≡ fit (shown (now (command .entry))) ⌝ }
+{
+    match *command {
+        Command::Begin { height, .. } => is_word(height),
         Command::Price { asset, price } => asset < 8 && is_price(price),
         Command::Volume {
             sold,
@@ -55,32 +70,53 @@ pub fn in_range(command: Command) -> bool
         } => is_pair(sold, bought) && is_amount(amount),
         Command::Create {
             source,
+            sequence,
             account,
-            ..
-        } => source > 0 && account > 0,
+        } => is_number(source) && is_word(sequence) && is_number(account),
         Command::Pay {
             source,
+            sequence,
             receiver,
             asset,
             amount,
             ..
-        } => source > 0 && receiver > 0 && asset < 8 && is_amount(amount),
+        } => {
+            is_number(source)
+                && is_word(sequence)
+                && is_number(receiver)
+                && asset < 8
+                && is_amount(amount)
+        }
         Command::Place {
             source,
+            sequence,
             sold,
             bought,
             limit,
             amount,
-            ..
-        } => { source > 0 && is_pair(sold, bought) && limit > 0 && is_amount(amount) }
+        } => {
+            is_number(source)
+                && is_word(sequence)
+                && is_pair(sold, bought)
+                && is_number(limit)
+                && is_amount(amount)
+        }
         Command::Cancel {
             source,
+            sequence,
             sold,
             bought,
             limit,
-            ..
-        } => source > 0 && is_pair(sold, bought) && limit > 0,
-        Command::Found { account, balances } => account > 0
+            offer,
+        } => {
+            is_number(source)
+                && is_word(sequence)
+                && is_pair(sold, bought)
+                && is_number(limit)
+                && is_word(offer)
+        }
+        Command::Found { account, balances } => is_number(account)
             && are_balances(&eight_balances(balances)),
+        Command::End => true,
     }
 }
