@@ -1,0 +1,4 @@
+pub mod Starts
+pub mod Probes
+pub mod Links
+pub mod Stores

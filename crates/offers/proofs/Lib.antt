@@ -1,0 +1,4 @@
+pub mod Sound
+pub mod Edits
+pub mod Replies
+pub mod Replaces

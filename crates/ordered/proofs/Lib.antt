@@ -1,0 +1,4 @@
+pub mod Keys
+pub mod Rising
+pub mod Windows
+pub mod Shift

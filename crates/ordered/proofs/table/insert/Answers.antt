@@ -1,0 +1,7 @@
+use Rattle.ordered.proofs.table.insert.Needs as need
+use Rattle.ordered.proofs.Shift.{insert-is}
+
+pub returns : need.returns
+returns g c =
+    insert-is (c .args .slots .now) (c .copy-within .last .self) (c .args .len) (c .args .at) (c .args .item)
+    (c .pre .0) (c .pre .1) (c .copy-within .ensures .len) (c .copy-within .ensures .places .0) (c .copy-within .ensures .places .1)
