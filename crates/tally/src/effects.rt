@@ -13,6 +13,8 @@ ghost use Rattle.terms.specs.Order.{lower, Rising, under};
 ghost use Rattle.tally.specs.Order.{order};
 ghost use Rattle.tally.specs.Tally.{added, roomy, Tallied, Small};
 ghost use Rattle.tally.specs.declared.effects.Effect.{Effect};
+use crate::rules::Place;
+use crate::rules::Placed;
 use ordered::SortKey;
 use std::cmp::Ordering;
 
@@ -35,6 +37,17 @@ pub struct Net<K> {
     pub key: K,
     pub plus: u128,
     pub minus: u128,
+}
+
+// A net is named as its key is.
+pub impl<K: Placed> Placed for Net<K> as NetPlaced {
+    ghost first = { λ n. K·Placed .first (n .key) };
+
+    ghost second = { λ n. K·Placed .second (n .key) };
+
+    fn place(&self) -> Place {
+        self.key.place()
+    }
 }
 
 // What an entry of a list gives: at most two effects.

@@ -2,14 +2,26 @@
 ghost use mathlib.Core.Path.{_≡_};
 ghost use mathlib.Core.Bool.{Bool};
 ghost use Prim.Native.Nat.{ℕ};
-ghost use Rattle.tally.specs.Least.{Broken, Told, lesserOf, LeastPlace};
+ghost use Rattle.tally.specs.Least.{Broken, Told, spot, lesserOf, LeastPlace};
+use ordered::SortKey;
 use terms::Fault;
+use terms::Transaction;
+use terms::Volume;
 
 // The two numbers by which a fault names a place.
 #[derive(Clone, Copy)]
 pub struct Place {
     pub first: u64,
     pub second: u64,
+}
+
+// Places go by the first number, then the second.
+pub impl SortKey for Place as PlaceSortKey {
+    ghost rank = { spot };
+
+    fn precedes(self, other: Place) -> bool {
+        self.first < other.first || (self.first == other.first && self.second < other.second)
+    }
 }
 
 // What has a place.
@@ -20,6 +32,44 @@ pub trait Placed: Copy {
 
     fn place(&self) -> Place
         ensures { λ r. ⌜ (r .first ≡ first (now (self .entry))) × (r .second ≡ second (now (self .entry))) ⌝ };
+}
+
+pub impl Placed for Place as PlacePlaced {
+    ghost first = { λ p. p .first };
+
+    ghost second = { λ p. p .second };
+
+    fn place(&self) -> Place {
+        *self
+    }
+}
+
+// A transaction is named by its source and its sequence number.
+pub impl Placed for Transaction as TransactionPlaced {
+    ghost first = { λ t. t .source };
+
+    ghost second = { λ t. t .sequence };
+
+    fn place(&self) -> Place {
+        Place {
+            first: self.source as u64,
+            second: self.sequence as u64,
+        }
+    }
+}
+
+// A volume is named by its pair.
+pub impl Placed for Volume as VolumePlaced {
+    ghost first = { λ v. v .sold };
+
+    ghost second = { λ v. v .bought };
+
+    fn place(&self) -> Place {
+        Place {
+            first: self.sold as u64,
+            second: self.bought as u64,
+        }
+    }
 }
 
 // A rule on entries. What it leans on, if anything, is `ready`; where that does not hold, its answers mean nothing.
@@ -38,13 +88,7 @@ fn lesser(best: Option<Place>, p: Place) -> Option<Place>
 {
     match best {
         None => Some(p),
-        Some(b) => {
-            if p.first < b.first || (p.first == b.first && p.second < b.second) {
-                Some(p)
-            } else {
-                Some(b)
-            }
-        }
+        Some(b) => { if p.precedes(b) { Some(p) } else { Some(b) } }
     }
 }
 
