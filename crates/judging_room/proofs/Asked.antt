@@ -1,5 +1,5 @@
 -- What the transactions of a block ask for, counted. Assumes nothing.
-use mathlib.Core.Path.{_≡_, refl, sym, subst, _∙_}
+use mathlib.Core.Path.{_≡_, refl, sym, _∙_}
 use Prim.Native.Nat.{ℕ, _+_, _*_, _<_, _≤_, min}
 use native.Mathlib.Omega.{arith}
 use lib.Dec.{lit≤}
@@ -8,11 +8,6 @@ use Rattle.std.proofs.shelf.Sums.{sumBy-cons}
 use Rattle.terms.specs.declared.Action.{Action}
 use Rattle.terms.specs.declared.Action.the-variants.{Create, Pay, Place, Cancel}
 use Rattle.terms.specs.declared.Transaction.{Transaction}
-use Rattle.terms.specs.declared.Fault.{Fault}
-use Rattle.std.specs.declared.result.Result.the-variants.{Err}
-use Rattle.exchange.specs.Faults.{fault}
-use Rattle.tally.specs.Least.{Told}
-use Rattle.tally.proofs.Tells.{not-below-zero}
 use Rattle.exchange.specs.Trade.{opens, places, cancels, created, placed, cancelled}
 use Rattle.exchange.proofs.Rising.{sumBy-same, sumBy-grows, all-of}
 use Rattle.exchange.proofs.Sums.{sumBy-joined, ones}
@@ -54,10 +49,3 @@ counted-cancelled ts = counted cancelled ts (λ t. each (t .source) (t .action))
     each s (Pay r x n) = lit≤ tt
     each s (Place x y l n) = lit≤ tt
     each s (Cancel x y l q) = lit≤ tt
-
--- a cause without places, told
-pub told-once : (P : Type 0) (f : Fault) (n : ℕ) → f ≡ fault n 0 0 → P → Told (λ i j. P × (i ≡ 0) × (j ≡ 0)) n (Err f)
-told-once P f n e p = subst (λ z. Told (λ i j. P × (i ≡ 0) × (j ≡ 0)) n (Err z)) (sym e) (refl, (p, refl, refl), λ i j _. not-below-zero i j)
-
-pub told-no : (P : Type 0) → (P → ⊥) → (i j : ℕ) → P × (i ≡ 0) × (j ≡ 0) → ⊥
-told-no P n i j (p, _, _) = n p

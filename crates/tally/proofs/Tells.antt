@@ -20,3 +20,10 @@ told-by P Q n (Err f) to from (e, p, l) = (e, to _ _ p, λ i j q. l i j (from i 
 -- no place is below the first
 pub not-below-zero : (i j : ℕ) → lower (i ∷ j ∷ []) (0 ∷ 0 ∷ []) ≡ false
 not-below-zero i j = grind (arith, tells)
+
+-- what has no place of its own is told at the first, or not at all
+pub told-once : (P : Type 0) (f : Fault) (n : ℕ) → f ≡ record { number = n; first = 0; second = 0 } → P → Told (λ i j. P × (i ≡ 0) × (j ≡ 0)) n (Err f)
+told-once P f n e p = subst (λ z. Told (λ i j. P × (i ≡ 0) × (j ≡ 0)) n (Err z)) (sym e) (refl, (p, refl, refl), λ i j _. not-below-zero i j)
+
+pub told-no : (P : Type 0) → (P → ⊥) → (i j : ℕ) → P × (i ≡ 0) × (j ≡ 0) → ⊥
+told-no P n i j (p, _, _) = n p

@@ -1,5 +1,6 @@
 use native.Mathlib.Omega.{arith}
-use Rattle.judging_room.proofs.Asked.{counted-created, told-once, told-no}
+use Rattle.tally.proofs.Tells.{told-once, told-no}
+use Rattle.judging_room.proofs.Asked.{counted-created}
 use Rattle.judging_room.proofs.accounts_fit.Needs as need
 
 pub returns-then-room-wanted : need.returns-then-room-wanted

@@ -1,5 +1,6 @@
 use native.Mathlib.Omega.{arith}
-use Rattle.judging_room.proofs.Asked.{counted-placed, counted-cancelled, told-once, told-no}
+use Rattle.tally.proofs.Tells.{told-once, told-no}
+use Rattle.judging_room.proofs.Asked.{counted-placed, counted-cancelled}
 use Rattle.judging_room.proofs.offers_fit.Needs as need
 
 pub returns-then-room-wanted : need.returns-then-room-wanted
