@@ -1,0 +1,7 @@
+use native.Mathlib.Omega.{arith}
+use Rattle.std.proofs.shelf.Ways.{tells}
+use Rattle.judging_rules.proofs.Tells.{told-plain}
+use Rattle.judging_rules.proofs.sequences_in_window.Needs as need
+
+pub returns : need.returns
+returns g c = told-plain _ _ (c .args .transactions .now) 12 (c .report .result) (λ x e. grind (arith, tells)) (λ x e. grind (arith, tells)) (c .report .ensures tt)
