@@ -1,6 +1,8 @@
 // Account stores, by what they mean: a capacity, a top (the highest number that an account may have), and for each
 // standing account its floor (the highest sequence number that it has used) and its eight free balances.
 // No function asks anything of its caller, and questions and refusals change no meaning.
+#![tactic(auto)]
+
 ghost use Rattle.std.specs.Prelude.{◌≡◌, ℕ, ◌+◌, ◌<◌, ◌≤◌, List, [], ◌∷◌, length, replicate, if◌then◌else◌, MatchResult};
 ghost use Rattle.terms.specs.Order.{name, above};
 ghost use Rattle.terms.specs.Holdings.{standing, floor_at, balance_at, free_of};

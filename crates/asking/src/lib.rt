@@ -1,4 +1,6 @@
 // The questions that may be put to a replica, each with its reply as a value. Assumes nothing.
+#![tactic(auto)]
+
 ghost use Rattle.std.specs.Prelude.{◌≡◌};
 ghost use Rattle.exchange.specs.Life.{reply as replies};
 ghost use Rattle.replica.specs.Meaning.{state_of};

@@ -1,6 +1,8 @@
 // Workloads over the offer books, for the program in bench/ that times them beside Rust's BTreeMap. Each makes a book,
 // places as many offers as it has room for, looks amounts up, walks the keys in rising order and asks for sums up to a
 // limit. Nothing is promised of the sums, which only keep the work from being left out. Assumes nothing.
+#![tactic(auto)]
+
 use offers::OfferBook;
 use ordered_book::OrderedBook;
 use std::alloc::Global;

@@ -1,6 +1,8 @@
 // Workloads over the account stores, for the program in bench/ that times them beside Rust's own maps. Each makes a
 // store over an array of its own, opens as many accounts as it has slots, looks balances up and walks the numbers in
 // rising order. Nothing is promised of the sums, which only keep the work from being left out. Assumes nothing.
+#![tactic(auto)]
+
 use accounts::AccountStore;
 use hashed_store::{Entry, HashedStore};
 use sorted_store::SortedStore;

@@ -1,5 +1,6 @@
 // Blocks and foundings from their bytes. Assumes nothing of the bytes. What is readable, and what it says, is in
 // specs/Readable.antt; the order in which faults are looked for is in docs/FORMAT.md.
+#![tactic(auto)]
 
 mod decoded;
 mod draft;

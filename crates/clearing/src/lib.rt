@@ -1,5 +1,7 @@
 // Clears a block: store, book and remainders become what a commit of the block makes of them. Assumes nothing; that
 // nothing is refused, and what is left, is shown for a sound state in which the block has no fault.
+#![tactic(auto)]
+
 ghost use Rattle.std.specs.Prelude.{◌≡◌, None};
 ghost use Rattle.blocks.specs.Decoded.{block_of};
 ghost use Rattle.exchange.specs.State.{State};

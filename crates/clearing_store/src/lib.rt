@@ -1,6 +1,8 @@
 // The store's part of clearing a block: the nets of payments, new and cancelled offers reach the balances, floors rise
 // to the sequence numbers used, and new accounts open.
 // Assumes nothing: where a change can't be made, the refusal is handed on, and the rest is left undone.
+#![tactic(auto)]
+
 ghost use Rattle.std.specs.Prelude.{◌≡◌, [], ◌∷◌, if◌then◌else◌, Some, None};
 ghost use Rattle.std.specs.List.{flat_map};
 ghost use Rattle.terms.specs.Ranges.{is_balance};

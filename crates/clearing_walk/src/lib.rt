@@ -1,6 +1,8 @@
 // Fills the offers of a block: each pair's offers in trade are walked in key order, only as far as the volume goes;
 // filled offers shrink or leave the book, and what they are paid goes to their owners' balances. Assumes nothing; that
 // nothing is refused on the way is shown for a block without fault.
+#![tactic(auto)]
+
 ghost use Rattle.std.specs.Prelude.{◌≡◌, ℕ, ◌+◌, ◌-◌, ◌*◌, ◌/◌, ◌^◌, ◌<◌, ◌≤◌, true, ◌&&◌, [], ◌∷◌, ◌==◌, nat_le};
 ghost use Rattle.terms.specs.declared.Key.{Key};
 ghost use Rattle.terms.specs.Holdings.{Store, amount_at};

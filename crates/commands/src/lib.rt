@@ -1,5 +1,6 @@
 // The commands that blocks and foundings are made of: one command at a place of the bytes, and where the first end is.
 // Assumes nothing of the bytes. The format is in docs/FORMAT.md, and in specs/Format.antt and specs/Extent.antt.
+#![tactic(auto)]
 
 mod command;
 mod extent;

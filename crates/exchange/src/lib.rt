@@ -1,5 +1,7 @@
 // The laws of the exchange and its worked cases. Each function has no other use than that its contract names a law of
 // specs/Claims.antt, or the worked cases of specs/Cases.antt, so that the crate is proved only with a proof of it. Assumes nothing.
+#![tactic(auto)]
+
 ghost use Rattle.exchange.specs.Cases.{Cases};
 ghost use Rattle.exchange.specs.Claims.{OrderFree, OneOutcome, FoundingOrderFree, ReplicasAgree, Conserved, SoundForLife, PayoutsCovered, LimitsKept, CountsAddUp};
 

@@ -1,6 +1,8 @@
 // What a block without fault does with one key: how much of it is sold, and what is paid for it. Assumes nothing; the
 // key may be any. No memory is asked for: one pass over the transactions for each part of the sum, and a walk over the
 // standing offers of the key's pair and limit.
+#![tactic(auto)]
+
 ghost use Rattle.std.specs.Prelude.{◌≡◌, ◌≤◌, [], None};
 ghost use Rattle.terms.specs.declared.Key.{Key};
 ghost use Rattle.terms.specs.Holdings.{amount_at};

@@ -1,6 +1,8 @@
 // A founding: what its grants are refused for, and the opening of their accounts. Assumes nothing: all that the tests
 // lean on is known of every decoded founding. That accounts open without a refusal is told of an empty store and of
 // grants in which no fault was found; of any other, nothing is told.
+#![tactic(auto)]
+
 ghost use Rattle.std.specs.Prelude.{◌≡◌, ◌<◌, ◌≤◌, length, None, Err, slice_index};
 ghost use Rattle.terms.specs.Holdings.{Store};
 ghost use Rattle.blocks.specs.Decoded.{grants_of};

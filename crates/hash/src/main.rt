@@ -1,4 +1,6 @@
 // Prints the SHA-256 digest of standard input, which is hashed as it is read. Assumes nothing.
+#![tactic(auto)]
+
 use sha256::{Hasher, hex};
 use std::io;
 use std::io::{Read, Write};

@@ -2,6 +2,8 @@
 // of their opening and never move. The lent index holds three entries for each: one in the ordered table that next
 // walks, and two buckets, so that at most half of the buckets are ever taken and a look-up takes a few probes, however
 // full the store is. Assumes nothing.
+#![tactic(auto)]
+
 ghost use Rattle.std.specs.Prelude.{◌≡◌, ℕ, ◌+◌, ◌-◌, ◌*◌, ◌/◌, ◌<◌, ◌≤◌, min, true, List, [], ◌∷◌, map, length, take, sum_by};
 ghost use Rattle.terms.specs.declared.Account.{Account};
 ghost use Rattle.terms.specs.Ranges.{every};

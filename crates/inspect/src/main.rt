@@ -1,5 +1,7 @@
 // Shows what a proposer sent: a founding and blocks from standard input, a line for each command, in plain words.
 // Places count from the first byte of their founding or block. Assumes nothing of the input.
+#![tactic(auto)]
+
 mod totals;
 
 use anyhow::anyhow;

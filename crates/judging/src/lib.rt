@@ -1,5 +1,7 @@
 // Judging a readable block against a replica's state: it is good, or the answer is its least fault. Assumes nothing:
 // all that the tests lean on is known of every decoded block.
+#![tactic(auto)]
+
 ghost use Rattle.std.specs.Prelude.{ℕ, ◌≤◌, List};
 ghost use Rattle.terms.specs.declared.Key.{Key};
 ghost use Rattle.terms.specs.Holdings.{Store, Book};

@@ -1,6 +1,8 @@
 // What a block's payments, new offers and cancelled offers come to for each balance, and that no balance falls below zero
 // by it, all taken together: what the block pays for sold offers is not in it, and the order of the transactions does not
 // matter. Assumes nothing: of more than 1,024 transactions, as no readable block has, the test refuses with fault 6.
+#![tactic(auto)]
+
 ghost use Rattle.std.specs.Prelude.{◌≡◌, ℕ, ◌+◌, ◌<◌, ◌≤◌, true, false, ◌&&◌, List, [], length, take, Err, MatchOption, nat_lt};
 ghost use Rattle.std.specs.List.{flat_map};
 ghost use Rattle.terms.specs.Holdings.{balance_at, amount_at};

@@ -1,5 +1,7 @@
 // A block follows on the replica's state: its height is the replica's + 1, and its parent is the replica's digest.
 // Assumes nothing.
+#![tactic(auto)]
+
 ghost use Rattle.std.specs.Prelude.{List, []};
 ghost use Rattle.exchange.specs.Faults.Cause.{wrong-height, wrong-parent};
 ghost use Rattle.judging_rules.specs.Rows.{Row, scene, no_store, no_book};

@@ -1,5 +1,7 @@
 // The prices clear the volumes: what is sold for an asset is worth no more than what is sold of it. Assumes nothing:
 // of more than 56 volumes, as no readable block has, the test refuses with fault 4.
+#![tactic(auto)]
+
 ghost use Rattle.std.specs.Prelude.{◌≡◌, ℕ, ◌+◌, ◌*◌, ◌^◌, ◌<◌, ◌≤◌, min, List, [], length, Err, sum_by, nat_lt, slice_index};
 ghost use Rattle.exchange.specs.Trade.{volume_of, worth_for, price as priceIn};
 ghost use Rattle.exchange.specs.Faults.{fault};

@@ -1,6 +1,8 @@
 // What may stand only once in a block: a source with a sequence number, a new account, a cancelled offer. Each is
 // counted by sorting. Assumes nothing: of more than 1,024 transactions, as no readable block has, each test refuses
 // with fault 6; otherwise it tells the least place at which its rule is broken.
+#![tactic(auto)]
+
 ghost use Rattle.std.specs.Prelude.{◌≡◌, ℕ, ◌+◌, ◌<◌, ◌≤◌, ltb, List, [], ◌∷◌, length, Err, nat_lt};
 ghost use Rattle.std.specs.Option.{option_to_list};
 ghost use Rattle.terms.specs.Order.{words, Rising, under};

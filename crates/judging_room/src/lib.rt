@@ -1,5 +1,7 @@
 // The accounts and the offers of a block fit into store and book, counted over the whole block. Assumes nothing: of
 // more than 1,024 transactions, as no readable block has, each test refuses with fault 6.
+#![tactic(auto)]
+
 ghost use Rattle.std.specs.Prelude.{◌≡◌, ℕ, ◌+◌, ◌<◌, ◌≤◌, List, [], length, Err};
 ghost use Rattle.exchange.specs.Faults.{fault};
 ghost use Rattle.exchange.specs.Faults.Cause.{accounts_full, offers_full};

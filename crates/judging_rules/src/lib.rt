@@ -1,6 +1,8 @@
 // Rules that one transaction may break by itself: its source and its receiver stand, its sequence number is one of
 // the good ones, the offer that it cancels stands. Standing means before the block. Assumes nothing: each takes any
 // account store or offer book and any transactions, and tells the least place at which its rule is broken.
+#![tactic(auto)]
+
 ghost use Rattle.std.specs.Prelude.{◌≡◌, not, List, [], ◌==◌, nat_eq};
 ghost use Rattle.terms.specs.Holdings.{standing, floor_at, amount_at};
 ghost use Rattle.exchange.specs.Trade.{paying, cancelled};

@@ -1,6 +1,8 @@
 // No volume exceeds what is eligible of its pair: the book's offers without the cancelled and with the new, as far as
 // the prices meet their limits. Assumes nothing: of more than 1,024 transactions, as no readable block has, the test
 // refuses with fault 6. What it tells holds where no offer is cancelled twice and the volumes rise by their pairs.
+#![tactic(auto)]
+
 ghost use Rattle.std.specs.Prelude.{◌≡◌, ℕ, ◌*◌, ◌<◌, ◌≤◌, [], length, if◌then◌else◌, Err, nat_le, nat_lt, slice_index};
 ghost use Rattle.std.specs.List.{flat_map, AllByRecursion as All};
 ghost use Rattle.terms.specs.declared.Key.{Key};

@@ -1,6 +1,8 @@
 // Prints the listing of a founding and blocks from standard input, over a sorted store of 256 slots with top
 // 4,294,967,295 and a trie of 2,047 nodes. Input of more than 65,536 bytes prints only fault 1. Assumes nothing of the
 // input.
+#![tactic(auto)]
+
 ghost use Rattle.std.specs.Prelude.{IfOk};
 ghost use Rattle.list.specs.Shown.{Shown};
 

@@ -1,5 +1,7 @@
 // Lives of replicas: events and answers, one replica run over a list of events, and two of any makes side by side, with
 // the law of two replicas as the contract. Assumes nothing.
+#![tactic(auto)]
+
 mod events;
 mod run;
 mod slots;

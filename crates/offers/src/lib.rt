@@ -1,5 +1,7 @@
 // Offer books, by what they mean: a capacity, and for each standing key the amount that it sells.
 // No function asks anything of its caller, and questions and refusals change no meaning.
+#![tactic(auto)]
+
 ghost use Rattle.std.specs.Prelude.{◌≡◌, ℕ, ◌+◌, ◌<◌, ◌≤◌, ◌&&◌, length, MatchResult};
 ghost use Rattle.terms.specs.Order.{words, place, above};
 ghost use Rattle.terms.specs.Ranges.{fit_key, is_amount};

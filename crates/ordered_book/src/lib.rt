@@ -1,6 +1,8 @@
 // The offer book that keeps its offers sorted by key, in an ordered table over lent slots, one slot an offer.
 // Look-ups and next take a number of comparisons in the order of the logarithm of the count; place and reduce move
 // one block of offers, and the sums look at each offer once. Assumes nothing.
+#![tactic(auto)]
+
 ghost use Rattle.std.specs.Prelude.{◌≡◌, ℕ, ◌+◌, ◌-◌, ◌<◌, ◌≤◌, min, true, ◌&&◌, List, [], length, take, if◌then◌else◌, ◌==◌, nat_eq, nat_le};
 ghost use Rattle.terms.specs.Holdings.{sound_book};
 ghost use Rattle.ordered_book.specs.Rows.{book_of, Found};

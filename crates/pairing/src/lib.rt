@@ -1,5 +1,7 @@
 // Whether two laboratories' bytes say the same block, or the same founding, but for the order of transactions or of
 // grants. Assumes nothing of the bytes; no memory is asked for.
+#![tactic(auto)]
+
 mod numbers;
 mod order;
 mod same;

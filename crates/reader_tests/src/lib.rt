@@ -1,5 +1,7 @@
 // Worked lines of the format as tests of the reader: the smallest block, each fault at its edge, and foundings.
 // Blocks are put together byte by byte, without the reader's own definitions.
+#![tactic(auto)]
+
 use std::alloc::{AllocError, Global};
 
 // A begin of height 1 on the digest of zeros, and eight prices of 1: 85 bytes.

@@ -1,6 +1,8 @@
 // Replays a founding and blocks from a file of any size on a replica of chosen make and size, and prints the listing
 // and the counts. Wrong arguments and files that cannot be read get a message on standard error and status 1. Assumes
 // nothing of the arguments or of the file.
+#![tactic(auto)]
+
 mod arguments;
 mod replaying;
 mod settings;

@@ -1,5 +1,7 @@
 // SHA-256 of FIPS 180-4: a hasher that takes a message in pieces of any length, the digest of some bytes at once,
 // and a digest in hexadecimal. Assumes nothing; `sha256` of specs/Digest.antt says what the digest of a message is.
+#![tactic(auto)]
+
 ghost use Rattle.std.specs.Prelude.{◌≡◌, ◌<◌, ◌≤◌, length, MatchResult};
 ghost use Rattle.sha256.specs.Digest.{sha256};
 ghost use Rattle.sha256.specs.Hex.{hex_digit, hex_of};

@@ -1,6 +1,8 @@
 // The account store that keeps its accounts sorted by number, in an ordered table over lent slots. Look-ups and next
 // take a number of comparisons in the order of the logarithm of the count; open moves one block of accounts.
 // Assumes nothing.
+#![tactic(auto)]
+
 ghost use Rattle.std.specs.Prelude.{◌≡◌, ℕ, ◌+◌, ◌-◌, ◌<◌, ◌≤◌, min, true, List, [], ◌∷◌, length, take};
 ghost use Rattle.terms.specs.Holdings.{sound_store};
 ghost use Rattle.sorted_store.specs.Rows.{store_of, Found};

@@ -1,5 +1,7 @@
 // The digest of a replica's state: SHA-256 of its height, its remainders, its accounts by rising number and its offers
 // by rising key, as bytes. Assumes nothing: any account store and any offer book will do.
+#![tactic(auto)]
+
 ghost use Rattle.std.specs.Prelude.{◌≡◌, ℕ, List, ◌++◌};
 ghost use Rattle.std.specs.List.{ContainsAt as Has, flat_map};
 ghost use Rattle.terms.specs.declared.Account.{Account};

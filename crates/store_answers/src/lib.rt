@@ -1,4 +1,6 @@
 // What account stores and offer books answer to the commands of a script, and two of them side by side. Assumes nothing.
+#![tactic(auto)]
+
 ghost use Rattle.std.specs.Prelude.{◌≡◌, true};
 ghost use Rattle.store_answers.specs.Answers.{outcome, account_answer, AccountsLeft, offer_answer, OffersLeft};
 

@@ -1,5 +1,6 @@
 // The script that the program `stores` reads: its words, what a line asks of stores or books, and what they may answer.
 // Assumes nothing of a line.
+#![tactic(auto)]
 
 mod answer;
 mod ask;

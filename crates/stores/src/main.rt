@@ -2,6 +2,8 @@
 // answers side by side. It starts with room for 256 accounts and 256 offers; `fresh SLOTS TOP` starts again with empty
 // stores and books of other sizes. A line that is no command gets a line that says what to write, and the reading goes
 // on. Assumes nothing of the input.
+#![tactic(auto)]
+
 ghost use Rattle.std.specs.Prelude.{◌≡◌, ℕ, ◌+◌, min, true, IfOk, if◌then◌else◌};
 
 mod answer;

@@ -1,5 +1,7 @@
 // The least place at which a rule is broken over a list, and sums under keys: what the judging of a block is made of.
 // Assumes nothing: every function takes any arguments, and refuses what does not fit.
+#![tactic(auto)]
+
 pub mod effects;
 pub mod rules;
 

@@ -1,5 +1,6 @@
 // The plain records of the exchange, shared by code and definitions: accounts, offers, transactions, volumes,
 // founding grants and faults. Assumes nothing. The ranges of their numbers stand in specs/Ranges.antt.
+#![tactic(auto)]
 
 mod ranges;
 

@@ -2,6 +2,8 @@
 // key in one descent. n nodes hold (n + 1) / 2 keys. All memory is asked for when the trie is made, none in use: what a
 // key more will need lies in stock. Assumes nothing: every public function takes any arguments and refuses what
 // does not fit.
+#![tactic(auto)]
+
 ghost use Rattle.std.specs.Prelude.{◌≡◌, ℕ, ◌+◌, ◌-◌, ◌*◌, ◌/◌, ◌^◌, ◌<◌, ◌≤◌, min, true, ◌&&◌, IfOk, if◌then◌else◌, vec_len, vec_capacity, ◌==◌, nat_eq};
 ghost use Rattle.trie.specs.declared.node.Node.TheVariants.{Idle};
 ghost use Rattle.trie.specs.Trie.{held, under, offers, Whole, Amount, Next, placeable, reducible};

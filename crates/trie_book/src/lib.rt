@@ -1,5 +1,7 @@
 // The offer book that keeps its offers in a binary trie over the bits of the key. Each branch carries the sum of the
 // amounts below it, so that every question and every change looks at one path or two. Assumes nothing.
+#![tactic(auto)]
+
 ghost use Rattle.std.specs.Prelude.{◌≡◌, ℕ, ◌+◌, ◌-◌, ◌/◌, ◌^◌, ◌<◌, ◌≤◌, min, true, List, [], IfOk};
 ghost use Rattle.terms.specs.Holdings.{sound_book};
 ghost use Rattle.trie.specs.Trie.{held, under, offers, Next};

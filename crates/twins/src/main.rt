@@ -1,6 +1,8 @@
 // Runs two laboratories' streams side by side, each on a replica of another make, and prints their answers: a sorted
 // store and a trie for the first, a hashed store and an ordered book for the second. Streams that differ in more than
 // the order of transactions within a block and of grants within the founding are refused. Assumes nothing of the files.
+#![tactic(auto)]
+
 ghost use Rattle.std.specs.Prelude.{map, IfOk};
 ghost use Rattle.lives.specs.Events.{answer_of};
 ghost use Rattle.twins.specs.Paired.{Paired, Agreed};

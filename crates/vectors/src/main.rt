@@ -1,4 +1,6 @@
 // Prints the published SHA-256 test vectors: a name, the message's length in bytes and its digest. Assumes nothing.
+#![tactic(auto)]
+
 ghost use Rattle.std.specs.Prelude.{◌≡◌};
 ghost use Rattle.vectors.specs.Letters.{letters};
 ghost use Rattle.sha256.specs.Digest.{sha256};

@@ -1,4 +1,5 @@
 // Commands and faults in plain words, for programs to print. What is printed is tested, not proved.
+#![tactic(auto)]
 
 mod faults;
 mod lines;
