@@ -4,19 +4,19 @@ use Rattle.terms.specs.Ranges.{every, is_balance, are_balances}
 use Rattle.accounts.proofs.Grants.{Filled, filled_more, granted, settable, never}
 use Rattle.accounts.proofs.open_with.Goals as goal
 
-pub returns-in-err-set-balance : goal.returns-in-err-set-balance
-returns-in-err-set-balance g c =
+pub returns-in-err-set_balance : goal.returns-in-err-set_balance
+returns-in-err-set_balance g c =
     absurd (never
-    (settable _ _ _ c.args.number c.args.balances c.loop-x.x (omega arith) (sym c.are-balances.ensures ∙ c.if-not-are-balances.false) (omega arith) c.in-ok-open.ensures.after c.loop-x.invariant
-    ∙ sym c.set-balance.ensures.answer ∙ c.in-err-set-balance.was))
+    (settable _ _ _ c.args.number c.args.balances c.loop-x.x (omega arith) (sym c.are_balances.ensures ∙ c.if-not-are_balances.false) (omega arith) c.in-ok-open.ensures.after c.loop-x.invariant
+    ∙ sym c.set_balance.ensures.answer ∙ c.in-err-set_balance.was))
 
 pub loop-x-preserved : goal.loop-x-preserved
-loop-x-preserved g c = filled_more _ _ _ c.args.number c.args.balances c.loop-x.x c.loop-x.invariant c.in-ok-set-balance.ensures.after
+loop-x-preserved g c = filled_more _ _ _ c.args.number c.args.balances c.loop-x.x c.loop-x.invariant c.in-ok-set_balance.ensures.after
 
 pub returns : goal.returns
 returns g c =
     let eight : length c.args.balances ≡ 8 = omega arith in
-    let fit : every is_balance c.args.balances ≡ true = sym c.are-balances.ensures ∙ c.if-not-are-balances.false in
+    let fit : every is_balance c.args.balances ≡ true = sym c.are_balances.ensures ∙ c.if-not-are_balances.false in
     let s = (g.S.AccountStore.ledger c.args.store.now).store in
     let last : c.loop-x.x ≡ 8 = omega arith in
     record {

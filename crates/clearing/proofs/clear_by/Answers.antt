@@ -15,50 +15,50 @@ start : (s : State) (d : DecodedBlock) (ts : List Transaction) (ns : List (Net S
     → Sound s → Verdict s (block_of d) None → Nets s (block_of d) ns → Start s (block_of d) ts ns
 start s d ts ns e so clean nets = record { sound = so; clean = clean; ranges = d.ranges; reads = e; nets = nets }
 
-pub returns-in-err-cancel-offers : goal.returns-in-err-cancel-offers
-returns-in-err-cancel-offers g c = λ s so clean nets.
+pub returns-in-err-cancel_offers : goal.returns-in-err-cancel_offers
+returns-in-err-cancel_offers g c = λ s so clean nets.
     let st = start _ c.args.block.now _ _ c.transactions-transactions.ensures so clean nets in
-    absurd (c.in-err-cancel-offers.ensures (can_leave _ _ _ _ st))
+    absurd (c.in-err-cancel_offers.ensures (can_leave _ _ _ _ st))
 
-pub returns-in-err-place-offers : goal.returns-in-err-place-offers
-returns-in-err-place-offers g c = λ s so clean nets.
+pub returns-in-err-place_offers : goal.returns-in-err-place_offers
+returns-in-err-place_offers g c = λ s so clean nets.
     let st = start _ c.args.block.now _ _ c.transactions-transactions.ensures so clean nets in
-    absurd (c.in-err-place-offers.ensures (can_enter _ _ _ _ st _ c.in-ok-cancel-offers.ensures))
+    absurd (c.in-err-place_offers.ensures (can_enter _ _ _ _ st _ c.in-ok-cancel_offers.ensures))
 
-pub returns-in-err-apply-nets : goal.returns-in-err-apply-nets
-returns-in-err-apply-nets g c = λ s so clean nets.
+pub returns-in-err-apply_nets : goal.returns-in-err-apply_nets
+returns-in-err-apply_nets g c = λ s so clean nets.
     let st = start _ c.args.block.now _ _ c.transactions-transactions.ensures so clean nets in
-    absurd (c.in-err-apply-nets.ensures (can_apply _ _ _ _ st))
+    absurd (c.in-err-apply_nets.ensures (can_apply _ _ _ _ st))
 
 pub returns-in-err-paid : goal.returns-in-err-paid
 returns-in-err-paid g c = λ s so clean nets.
     let st = start _ c.args.block.now _ _ c.transactions-transactions.ensures so clean nets in
-    let applied = c.in-ok-apply-nets.ensures in
+    let applied = c.in-ok-apply_nets.ensures in
     absurd (c.in-err-paid.ensures.filled _ (ready _ _ _ _ st _ applied)
-    (in_trade _ _ _ _ st _ c.in-ok-cancel-offers.ensures _ c.in-ok-place-offers.ensures))
+    (in_trade _ _ _ _ st _ c.in-ok-cancel_offers.ensures _ c.in-ok-place_offers.ensures))
 
-pub returns-in-err-raise-floors : goal.returns-in-err-raise-floors
-returns-in-err-raise-floors g c = λ s so clean nets.
+pub returns-in-err-raise_floors : goal.returns-in-err-raise_floors
+returns-in-err-raise_floors g c = λ s so clean nets.
     let st = start _ c.args.block.now _ _ c.transactions-transactions.ensures so clean nets in
-    let applied = c.in-ok-apply-nets.ensures in
+    let applied = c.in-ok-apply_nets.ensures in
     let filled = c.in-ok-paid.ensures.filled _ (ready _ _ _ _ st _ applied)
-    (in_trade _ _ _ _ st _ c.in-ok-cancel-offers.ensures _ c.in-ok-place-offers.ensures) in
-    absurd (c.in-err-raise-floors.ensures (can_raise _ _ _ _ st _ applied _ _ _ filled))
+    (in_trade _ _ _ _ st _ c.in-ok-cancel_offers.ensures _ c.in-ok-place_offers.ensures) in
+    absurd (c.in-err-raise_floors.ensures (can_raise _ _ _ _ st _ applied _ _ _ filled))
 
-pub returns-in-err-open-accounts : goal.returns-in-err-open-accounts
-returns-in-err-open-accounts g c = λ s so clean nets.
+pub returns-in-err-open_accounts : goal.returns-in-err-open_accounts
+returns-in-err-open_accounts g c = λ s so clean nets.
     let st = start _ c.args.block.now _ _ c.transactions-transactions.ensures so clean nets in
-    let applied = c.in-ok-apply-nets.ensures in
+    let applied = c.in-ok-apply_nets.ensures in
     let filled = c.in-ok-paid.ensures.filled _ (ready _ _ _ _ st _ applied)
-    (in_trade _ _ _ _ st _ c.in-ok-cancel-offers.ensures _ c.in-ok-place-offers.ensures) in
-    absurd (c.in-err-open-accounts.ensures (can_open _ _ _ _ st _ applied _ _ _ filled _ c.in-ok-raise-floors.ensures))
+    (in_trade _ _ _ _ st _ c.in-ok-cancel_offers.ensures _ c.in-ok-place_offers.ensures) in
+    absurd (c.in-err-open_accounts.ensures (can_open _ _ _ _ st _ applied _ _ _ filled _ c.in-ok-raise_floors.ensures))
 
 pub returns : goal.returns
 returns g c = λ s so clean nets.
     let st = start _ c.args.block.now _ _ c.transactions-transactions.ensures so clean nets in
-    let left = c.in-ok-cancel-offers.ensures in
-    let entered = c.in-ok-place-offers.ensures in
-    let applied = c.in-ok-apply-nets.ensures in
+    let left = c.in-ok-cancel_offers.ensures in
+    let entered = c.in-ok-place_offers.ensures in
+    let applied = c.in-ok-apply_nets.ensures in
     let filled = c.in-ok-paid.ensures.filled _ (ready _ _ _ _ st _ applied) (in_trade _ _ _ _ st _ left _ entered) in
-    cleared _ _ _ _ st _ applied _ _ _ filled _ c.in-ok-raise-floors.ensures _ _ _ _ c.in-ok-open-accounts.ensures
+    cleared _ _ _ _ st _ applied _ _ _ filled _ c.in-ok-raise_floors.ensures _ _ _ _ c.in-ok-open_accounts.ensures
     (c.in-ok-paid.ensures.kept ∙ entered.capacity ∙ left.capacity) refl c.volumes.ensures c.renew.ensures

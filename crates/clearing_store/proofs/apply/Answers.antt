@@ -16,4 +16,4 @@ pub returns-in-Some : goal.returns-in-Some
 returns-in-Some g c =
     one_applied c.args.net _ _ c.in-Some.value c.if-net.false
     (c.in-Some.ensures ∙ ap (λ h. moved_to h c.args.net.plus c.args.net.minus) c.balance-had.ensures)
-    c.set-balance.result c.set-balance.ensures.answer c.set-balance.ensures.after
+    c.set_balance.result c.set_balance.ensures.answer c.set_balance.ensures.after

@@ -7,8 +7,8 @@ use Rattle.clearing_walk.proofs.settle.Goals.{then-amount-rest, else-amount-rest
 scaled : (n p : ℕ) → n ≤ largest → p < 2 ^ 24 → n * p ≤ largest * 2 ^ 24
 scaled n p h l = let a : n * p ≤ largest * p = mul-le-mul_right p h in omega arith
 
-pub overflow-add-had : goal.overflow-add-had
-overflow-add-had g c =
+pub overflow_add-had : goal.overflow_add-had
+overflow_add-had g c =
     let l = g.S.AccountStore.ledger c.args.store.now in
     let had = balance_fits l.store l.sound c.args.key.account c.args.key.bought in
     let small : c.if-amount-rest.sold ≤ largest =

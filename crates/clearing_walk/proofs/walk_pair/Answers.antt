@@ -12,8 +12,8 @@ loop-rest-init g c = (
   λ s b first p e w. rw e (begin s b first p.ready _ _ _ refl w),
 )
 
-pub overflow-add-out : goal.overflow-add-out
-overflow-add-out g c =
+pub overflow_add-out : goal.overflow_add-out
+overflow_add-out g c =
     let h = subst (λ o. Bounded c.loop-rest.rest c.args.rates (Ok o)) c.in-Some.is c.in-ok-turn.ensures.bounded in
     let k = paid_more c.args.volume.amount c.loop-rest.rest c.loop-rest.out c.in-Some.fill.sold c.in-Some.fill.paid c.args.rates.sold c.loop-rest.invariant.0 c.loop-rest.invariant.1 h.1 h.2 in
     let t = paid_all c.args.volume.amount (c.loop-rest.rest - c.in-Some.fill.sold) (c.loop-rest.out + c.in-Some.fill.paid) c.args.rates.sold k in

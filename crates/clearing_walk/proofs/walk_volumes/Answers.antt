@@ -12,8 +12,8 @@ bounds-prices-v g c = (in_pair c.args.volumes.now c.requires.1 c.loop-v.v-index 
 pub bounds-prices-i : goal.bounds-prices-i
 bounds-prices-i g c = (in_pair c.args.volumes.now c.requires.1 c.loop-v.v-index c.loop-v-test.true).1
 
-pub walk-pair-requires : goal.walk-pair-requires
-walk-pair-requires g c =
+pub walk_pair-requires : goal.walk_pair-requires
+walk_pair-requires g c =
     let (x, y, n) = in_pair c.args.volumes.now c.requires.1 c.loop-v.v-index c.loop-v-test.true in
     let eight : length c.args.prices.now ≡ 8 = omega arith in
     let priced = in_price c.args.prices.now c.requires.0 eight in
@@ -42,7 +42,7 @@ loop-v-preserved g c =
     let (x, y, _) = in_pair c.args.volumes.now c.requires.1 c.loop-v.v-index c.loop-v-test.true in (
       simp length-set c.loop-v.invariant.0,
       c.in-ok-out.ensures.kept ∙ c.loop-v.invariant.1,
-      λ s b h ready same. rw c.saturating-add.ensures
+      λ s b h ready same. rw c.saturating_add.ensures
           (leave s b _ ready _ c.args.volumes.now h c.loop-v.v-index c.loop-v-test.true _ _ c.loop-v.outs (c.loop-v.invariant.2 s b h ready same) _ _ c.in-ok-out.out y c.loop-v.invariant.0
           (c.in-ok-out.ensures.walked s b _
           (priced s b _ ready _ c.args.volumes.now h c.loop-v.v-index c.loop-v-test.true y)

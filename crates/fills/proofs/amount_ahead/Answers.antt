@@ -14,4 +14,4 @@ returns g c once =
     let k = c.args.key in
     let new = c.sum-placed.ensures.is ∙ sym (sum_by_joined (λ o. cond (ahead k o.key) o.amount 0) placed ts) in
     let gone = c.sum-cancelled.ensures.is ∙ sym (sum_by_joined (λ j. cond (ahead k j) (amount_at bk.offers j) 0) cancelled ts) in
-    omega (arith, corrected (scene no_store bk 0 []) (bundle ts) once (ahead k), new, gone, c.standing-ahead-standing.ensures, c.saturating-sub.ensures)
+    omega (arith, corrected (scene no_store bk 0 []) (bundle ts) once (ahead k), new, gone, c.standing_ahead-standing.ensures, c.saturating_sub.ensures)

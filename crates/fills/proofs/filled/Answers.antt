@@ -14,21 +14,21 @@ use Rattle.fills.proofs.Ahead.{sold_is}
 use Rattle.fills.proofs.Bounds.{ranges, pay_fits}
 use Rattle.fills.proofs.filled.Goals as goal
 
-pub overflow-cast-units : goal.overflow-cast-units
-overflow-cast-units g c =
+pub overflow_cast-units : goal.overflow_cast-units
+overflow_cast-units g c =
     let b = block_of c.args.block.now in
     let k = c.args.key in
     let v : c.sum-volume.result ≡ volume b k.sold k.bought = c.sum-volume.ensures.is ∙ ap (λ vs. under pair (λ w. w.amount) vs (k.sold ∷ k.bought ∷ [])) c.volumes.ensures in
-    omega (arith, v, (ranges b c.args.block.now.ranges).volumes k.sold k.bought, c.min-units.ensures, c.saturating-sub.ensures)
+    omega (arith, v, (ranges b c.args.block.now.ranges).volumes k.sold k.bought, c.min-units.ensures, c.saturating_sub.ensures)
 
-pub overflow-cast-pay : goal.overflow-cast-pay
-overflow-cast-pay g c =
+pub overflow_cast-pay : goal.overflow_cast-pay
+overflow_cast-pay g c =
     let b = block_of c.args.block.now in
     let k = c.args.key in
     let f = ranges b c.args.block.now.ranges in
     let v : c.sum-volume.result ≡ volume b k.sold k.bought = c.sum-volume.ensures.is ∙ ap (λ vs. under pair (λ w. w.amount) vs (k.sold ∷ k.bought ∷ [])) c.volumes.ensures in
-    let few : c.min-units.result ≤ 68719476735 = omega (arith, v, f.volumes k.sold k.bought, c.min-units.ensures, c.saturating-sub.ensures) in
-    let p = c.pay-for-pay.ensures ∙ ap (λ ps. pay_for (deal ps [] []) k.sold k.bought c.min-units.result) c.prices-prices.ensures in
+    let few : c.min-units.result ≤ 68719476735 = omega (arith, v, f.volumes k.sold k.bought, c.min-units.ensures, c.saturating_sub.ensures) in
+    let p = c.pay_for-pay.ensures ∙ ap (λ ps. pay_for (deal ps [] []) k.sold k.bought c.min-units.result) c.prices-prices.ensures in
     omega (arith, p, pay_fits b f k.sold k.bought c.min-units.result few)
 
 pub returns : goal.returns
@@ -38,11 +38,11 @@ returns g c s e clean =
     let ts = c.transactions-transactions in
     let met : eligible b k ≡ true = sym (c.eligible.ensures ∙ ap (λ ps. eligible (deal ps [] []) k) c.prices-prices.ensures) ∙ c.if-not-eligible.false in
     let v : c.sum-volume.result ≡ volume b k.sold k.bought = c.sum-volume.ensures.is ∙ ap (λ vs. under pair (λ w. w.amount) vs (k.sold ∷ k.bought ∷ [])) c.volumes.ensures in
-    let a : c.amount-in-trade-amount.result ≡ amount_at (trading s b) k =
-    c.amount-in-trade-amount.ensures ∙ ap₂ (λ z t. amount_at (trading (scene no_store z 0 []) (bundle t)) k) (sym e) ts.ensures in
+    let a : c.amount_in_trade-amount.result ≡ amount_at (trading s b) k =
+    c.amount_in_trade-amount.ensures ∙ ap₂ (λ z t. amount_at (trading (scene no_store z 0 []) (bundle t)) k) (sym e) ts.ensures in
     let once = subst (λ t. (j : Key) → cancels_of (bundle t) j ≤ 1) (sym ts.ensures) (at_most_once s b (λ i j p. clean _ (faulty s b cancelled-twice i j p))) in
-    let n : c.amount-ahead-ahead.result ≡ sum_ahead k (trading s b) =
-    c.amount-ahead-ahead.ensures once ∙ ap₂ (λ z t. sum_ahead k (trading (scene no_store z 0 []) (bundle t))) (sym e) ts.ensures in
-    let is = sold_is s b k c.sum-volume.result c.amount-in-trade-amount.result c.amount-ahead-ahead.result met v a n in
-    let units : c.min-units.result ≡ sold s b k = omega (arith, is, c.min-units.ensures, c.saturating-sub.ensures) in
-    (units, c.pay-for-pay.ensures ∙ ap₂ (λ ps m. pay_for (deal ps [] []) k.sold k.bought m) c.prices-prices.ensures units)
+    let n : c.amount_ahead-ahead.result ≡ sum_ahead k (trading s b) =
+    c.amount_ahead-ahead.ensures once ∙ ap₂ (λ z t. sum_ahead k (trading (scene no_store z 0 []) (bundle t))) (sym e) ts.ensures in
+    let is = sold_is s b k c.sum-volume.result c.amount_in_trade-amount.result c.amount_ahead-ahead.result met v a n in
+    let units : c.min-units.result ≡ sold s b k = omega (arith, is, c.min-units.ensures, c.saturating_sub.ensures) in
+    (units, c.pay_for-pay.ensures ∙ ap₂ (λ ps m. pay_for (deal ps [] []) k.sold k.bought m) c.prices-prices.ensures units)

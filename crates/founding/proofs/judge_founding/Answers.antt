@@ -5,29 +5,29 @@ use Rattle.tally.specs.Least.{fault_of}
 use Rattle.founding.proofs.Verdicts.{few, by_accounts, by_room, by_amounts}
 use Rattle.founding.proofs.judge_founding.Goals as goal
 
-pub returns-in-err-accounts-good : goal.returns-in-err-accounts-good
-returns-in-err-accounts-good g c =
+pub returns-in-err-accounts_good : goal.returns-in-err-accounts_good
+returns-in-err-accounts_good g c =
     let st = (g.S.AccountStore.ledger c.args.store.now).store in
     let gs = c.grants-grants in
     let short = few gs.result.now (grants_of c.args.founding.now) gs.ensures c.args.founding.now.ranges in
     let r = c.from-residual in
     subst (λ l. FoundingVerdict st l (fault_of r.result)) gs.ensures
-    (by_accounts st gs.result.now _ r.result r.ensures.1 (c.in-err-accounts-good.ensures.row short))
+    (by_accounts st gs.result.now _ r.result r.ensures.1 (c.in-err-accounts_good.ensures.row short))
 
-pub returns-in-err-accounts-fit : goal.returns-in-err-accounts-fit
-returns-in-err-accounts-fit g c =
+pub returns-in-err-accounts_fit : goal.returns-in-err-accounts_fit
+returns-in-err-accounts_fit g c =
     let st = (g.S.AccountStore.ledger c.args.store.now).store in
     let gs = c.grants-grants in
     let short = few gs.result.now (grants_of c.args.founding.now) gs.ensures c.args.founding.now.ranges in
-    let r = c.from-residual-in-err-accounts-fit in
+    let r = c.from-residual-in-err-accounts_fit in
     subst (λ l. FoundingVerdict st l (fault_of r.result)) gs.ensures
-    (by_room st gs.result.now (c.in-ok-accounts-good.ensures.row short) _ r.result r.ensures.1 c.in-err-accounts-fit.ensures)
+    (by_room st gs.result.now (c.in-ok-accounts_good.ensures.row short) _ r.result r.ensures.1 c.in-err-accounts_fit.ensures)
 
 pub returns : goal.returns
 returns g c =
     let st = (g.S.AccountStore.ledger c.args.store.now).store in
     let gs = c.grants-grants in
     let short = few gs.result.now (grants_of c.args.founding.now) gs.ensures c.args.founding.now.ranges in
-    let r = c.amounts-fit in
+    let r = c.amounts_fit in
     subst (λ l. FoundingVerdict st l (fault_of r.result)) gs.ensures
-    (by_amounts st gs.result.now (c.in-ok-accounts-good.ensures.row short) c.in-ok-accounts-fit.ensures r.result (r.ensures st))
+    (by_amounts st gs.result.now (c.in-ok-accounts_good.ensures.row short) c.in-ok-accounts_fit.ensures r.result (r.ensures st))

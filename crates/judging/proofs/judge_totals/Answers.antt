@@ -12,8 +12,8 @@ use Rattle.judging.proofs.Stages.{clear_none, clear_row, first_row, last_row, br
 use Rattle.judging.proofs.Parts.{made, few}
 use Rattle.judging.proofs.judge_totals.Goals as goal
 
-pub returns-in-err-balances-covered : goal.returns-in-err-balances-covered
-returns-in-err-balances-covered g c once h d =
+pub returns-in-err-balances_covered : goal.returns-in-err-balances_covered
+returns-in-err-balances_covered g c once h d =
     let s = scene (g.S.AccountStore.ledger c.args.store.now).store (g.B.OfferBook.orders c.args.book.now).book h d in
     let a = block_of c.args.block.now in
     let ts = c.transactions-transactions in
@@ -22,34 +22,34 @@ returns-in-err-balances-covered g c once h d =
     let r = c.from-residual in
     subst (λ z. Stage s z 18 22 r.result) (λ i. made a.height a.parent a.prices a.volumes (ts.ensures i))
     (broke s b 18 22 _ r.result r.ensures.1
-    (first_row s b overdrawn 18 22 _ (lit≤ tt) (lit< tt) (clear_none s b 18) (c.in-err-balances-covered.ensures.row short)))
+    (first_row s b overdrawn 18 22 _ (lit≤ tt) (lit< tt) (clear_none s b 18) (c.in-err-balances_covered.ensures.row short)))
 
-pub returns-in-err-accounts-fit : goal.returns-in-err-accounts-fit
-returns-in-err-accounts-fit g c once h d =
+pub returns-in-err-accounts_fit : goal.returns-in-err-accounts_fit
+returns-in-err-accounts_fit g c once h d =
     let s = scene (g.S.AccountStore.ledger c.args.store.now).store (g.B.OfferBook.orders c.args.book.now).book h d in
     let a = block_of c.args.block.now in
     let ts = c.transactions-transactions in
     let b = made a.height a.parent a.prices a.volumes ts.result.now in
     let short : length ts.result.now ≤ 1024 = subst (λ z. length z ≤ 1024) (sym ts.ensures) (few a c.args.block.now.ranges).1 in
-    let k19 = clear_row s b overdrawn 18 (clear_none s b 18) (c.in-ok-balances-covered.ensures.row short) in
-    let r = c.from-residual-in-err-accounts-fit in
+    let k19 = clear_row s b overdrawn 18 (clear_none s b 18) (c.in-ok-balances_covered.ensures.row short) in
+    let r = c.from-residual-in-err-accounts_fit in
     subst (λ z. Stage s z 18 22 r.result) (λ i. made a.height a.parent a.prices a.volumes (ts.ensures i))
     (broke s b 18 22 _ r.result r.ensures.1
-    (first_row s b accounts_full 18 22 _ (lit≤ tt) (lit< tt) k19 (c.in-err-accounts-fit.ensures.row short)))
+    (first_row s b accounts_full 18 22 _ (lit≤ tt) (lit< tt) k19 (c.in-err-accounts_fit.ensures.row short)))
 
-pub returns-in-err-offers-fit : goal.returns-in-err-offers-fit
-returns-in-err-offers-fit g c once h d =
+pub returns-in-err-offers_fit : goal.returns-in-err-offers_fit
+returns-in-err-offers_fit g c once h d =
     let s = scene (g.S.AccountStore.ledger c.args.store.now).store (g.B.OfferBook.orders c.args.book.now).book h d in
     let a = block_of c.args.block.now in
     let ts = c.transactions-transactions in
     let b = made a.height a.parent a.prices a.volumes ts.result.now in
     let short : length ts.result.now ≤ 1024 = subst (λ z. length z ≤ 1024) (sym ts.ensures) (few a c.args.block.now.ranges).1 in
-    let k19 = clear_row s b overdrawn 18 (clear_none s b 18) (c.in-ok-balances-covered.ensures.row short) in
-    let k20 = clear_row s b accounts_full 18 k19 (c.in-ok-accounts-fit.ensures.row short) in
-    let r = c.from-residual-in-err-offers-fit in
+    let k19 = clear_row s b overdrawn 18 (clear_none s b 18) (c.in-ok-balances_covered.ensures.row short) in
+    let k20 = clear_row s b accounts_full 18 k19 (c.in-ok-accounts_fit.ensures.row short) in
+    let r = c.from-residual-in-err-offers_fit in
     subst (λ z. Stage s z 18 22 r.result) (λ i. made a.height a.parent a.prices a.volumes (ts.ensures i))
     (broke s b 18 22 _ r.result r.ensures.1
-    (first_row s b offers_full 18 22 _ (lit≤ tt) (lit< tt) k20 (c.in-err-offers-fit.ensures.row short)))
+    (first_row s b offers_full 18 22 _ (lit≤ tt) (lit< tt) k20 (c.in-err-offers_fit.ensures.row short)))
 
 pub returns : goal.returns
 returns g c once h d =
@@ -58,10 +58,10 @@ returns g c once h d =
     let ts = c.transactions-transactions in
     let b = made a.height a.parent c.prices.result.now c.volumes.result.now ts.result.now in
     let short : length ts.result.now ≤ 1024 = subst (λ z. length z ≤ 1024) (sym ts.ensures) (few a c.args.block.now.ranges).1 in
-    let k19 = clear_row s b overdrawn 18 (clear_none s b 18) (c.in-ok-balances-covered.ensures.row short) in
-    let k20 = clear_row s b accounts_full 18 k19 (c.in-ok-accounts-fit.ensures.row short) in
-    let k21 = clear_row s b offers_full 18 k20 (c.in-ok-offers-fit.ensures.row short) in
+    let k19 = clear_row s b overdrawn 18 (clear_none s b 18) (c.in-ok-balances_covered.ensures.row short) in
+    let k20 = clear_row s b accounts_full 18 k19 (c.in-ok-accounts_fit.ensures.row short) in
+    let k21 = clear_row s b offers_full 18 k20 (c.in-ok-offers_fit.ensures.row short) in
     let single = subst (λ z. (k : Key) → cancels_of (bundle z) k ≤ 1) (sym ts.ensures) once in
     let up = subst (Rising pair) (sym c.volumes.ensures) (fits a c.args.block.now.ranges).pairs in
-    subst (λ z. Stage s z 18 22 c.volumes-supplied.result) (λ i. made a.height a.parent (c.prices.ensures i) (c.volumes.ensures i) (ts.ensures i))
-    (last_row s b excess_volume 18 c.volumes-supplied.result (lit≤ tt) k21 (c.volumes-supplied.ensures.row short single up))
+    subst (λ z. Stage s z 18 22 c.volumes_supplied.result) (λ i. made a.height a.parent (c.prices.ensures i) (c.volumes.ensures i) (ts.ensures i))
+    (last_row s b excess_volume 18 c.volumes_supplied.result (lit≤ tt) k21 (c.volumes_supplied.ensures.row short single up))

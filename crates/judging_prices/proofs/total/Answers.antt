@@ -7,9 +7,9 @@ use Rattle.judging_prices.proofs.total.Goals as goal
 pub loop-v-preserved : goal.loop-v-preserved
 loop-v-preserved c =
     let f = worth_at c.args.prices.now c.args.asset c.args.side in (
-      more f c.args.volumes.now c.loop-v.v-index _ c.loop-v.sum c.worth-at.result c.saturating-add-sum.result
-          c.loop-v-test.true c.loop-v.invariant.0 c.worth-at.ensures.is c.saturating-add-sum.ensures,
-      omega (arith, c.worth-at.ensures.small, c.saturating-add-sum.ensures, c.loop-v.invariant.1),
+      more f c.args.volumes.now c.loop-v.v-index _ c.loop-v.sum c.worth_at.result c.saturating_add-sum.result
+          c.loop-v-test.true c.loop-v.invariant.0 c.worth_at.ensures.is c.saturating_add-sum.ensures,
+      omega (arith, c.worth_at.ensures.small, c.saturating_add-sum.ensures, c.loop-v.invariant.1),
     )
 
 pub returns : goal.returns

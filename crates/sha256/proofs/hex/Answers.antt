@@ -26,9 +26,9 @@ loop-i-preserved c =
     let room : 2 * i + 1 < length text = omega (arith, c.loop-i.invariant.0) in
     let l : i < length bs = omega arith in (
       length-set _ _ _ ∙ (length-set _ _ _ ∙ c.loop-i.invariant.0),
-      written text i c.hex-digit.result c.hex-digit-in-loop-i.result room
-          ∙ (ap (λ x. take (2 * i) text ++ x ∷ c.hex-digit-in-loop-i.result ∷ []) c.hex-digit.ensures
-          ∙ (ap (λ x. take (2 * i) text ++ hex_digit (get_or bs i 0 / 16) ∷ x ∷ []) c.hex-digit-in-loop-i.ensures
+      written text i c.hex_digit.result c.hex_digit-in-loop-i.result room
+          ∙ (ap (λ x. take (2 * i) text ++ x ∷ c.hex_digit-in-loop-i.result ∷ []) c.hex_digit.ensures
+          ∙ (ap (λ x. take (2 * i) text ++ hex_digit (get_or bs i 0 / 16) ∷ x ∷ []) c.hex_digit-in-loop-i.ensures
           ∙ (ap (λ x. x ++ hex_byte (get_or bs i 0)) c.loop-i.invariant.1 ∙ sym (hex_more bs i l)))),
     )
 

@@ -16,10 +16,10 @@ returns g c = λ m a has is k.
     let ok = store_parts st (g.S.AccountStore.ledger c.args.store.now).sound in
     let floor : c.floor.result ≡ a.floor =
     c.floor.ensures ∙ ap (λ n. under name (λ b. b.floor) st.accounts (n ∷ [])) (sym is) ∙ all-has _ st.accounts a (under_each name (λ b. b.floor) st.accounts ok.up) has in
-    let p : c.to-be-bytes.result ≡ bytes_of 4 a.number = c.to-be-bytes.ensures ∙ (four_bytes c.args.number ∙ ap (bytes_of 4) (sym is)) in
-    let q : c.to-be-bytes-2.result ≡ bytes_of 4 a.floor = c.to-be-bytes-2.ensures ∙ (four_bytes c.floor.result ∙ ap (bytes_of 4) floor) in
+    let p : c.to_be_bytes.result ≡ bytes_of 4 a.number = c.to_be_bytes.ensures ∙ (four_bytes c.args.number ∙ ap (bytes_of 4) (sym is)) in
+    let q : c.to_be_bytes-2.result ≡ bytes_of 4 a.floor = c.to_be_bytes-2.ensures ∙ (four_bytes c.floor.result ∙ ap (bytes_of 4) floor) in
     let r : flat_map (bytes_of 8) c.balances.result ≡ flat_map (bytes_of 8) a.balances = ap (flat_map (bytes_of 8)) (c.balances.ensures a has is) in
-    let h = c.add-amounts.ensures _ (c.update-2.ensures _ (c.update.ensures m k)) in
-    let pieces : (((m ++ c.to-be-bytes.result) ++ c.to-be-bytes-2.result) ++ flat_map (bytes_of 8) c.balances.result) ≡ m ++ account_bytes a =
-    three m c.to-be-bytes.result c.to-be-bytes-2.result (flat_map (bytes_of 8) c.balances.result) ∙ ap (λ z. m ++ z) (ap₂ (λ x y. x ++ y) p (ap₂ (λ x y. x ++ y) q r)) in
-    subst (Holds c.add-amounts.new.hasher) pieces h
+    let h = c.add_amounts.ensures _ (c.update-2.ensures _ (c.update.ensures m k)) in
+    let pieces : (((m ++ c.to_be_bytes.result) ++ c.to_be_bytes-2.result) ++ flat_map (bytes_of 8) c.balances.result) ≡ m ++ account_bytes a =
+    three m c.to_be_bytes.result c.to_be_bytes-2.result (flat_map (bytes_of 8) c.balances.result) ∙ ap (λ z. m ++ z) (ap₂ (λ x y. x ++ y) p (ap₂ (λ x y. x ++ y) q r)) in
+    subst (Holds c.add_amounts.new.hasher) pieces h

@@ -19,7 +19,7 @@ loop-number-init g c = λ m k.
     (m, k, ap (λ xs. m ++ flat_map account_bytes xs) all)
 
 -- the account that the loop comes to
-after : (g : _) (c : goal.After-add-account g)
+after : (g : _) (c : goal.After-add_account g)
     → Next name (g.S.AccountStore.ledger c.args.store.now).store.accounts (c.loop-number.at ∷ []) (c.in-Some.number ∷ [])
 after g c =
     let st = (g.S.AccountStore.ledger c.args.store.now).store in
@@ -37,7 +37,7 @@ loop-number-preserved g c = λ m k.
     let number : a.number ≡ c.in-Some.number = let e = n.is in cc in
     let before = c.loop-number.invariant m k in (
       before.0 ++ account_bytes a,
-      c.add-account.ensures before.0 a n.has number before.1,
+      c.add_account.ensures before.0 a n.has number before.1,
       moved name account_bytes st.accounts _ _ before.0 _ n before.2,
     )
 

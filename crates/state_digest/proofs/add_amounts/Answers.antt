@@ -12,7 +12,7 @@ loop-amount-preserved c = λ m k.
     let i = c.loop-amount.amount-index in
     let h = c.update.ensures _ (c.loop-amount.invariant m k) in
     let here : i < length xs = omega (arith, c.told-amounts, c.loop-amount-test.true) in
-    let bytes : c.to-be-bytes.result ≡ bytes_of 8 (get_or xs i 0) = c.to-be-bytes.ensures ∙ eight_bytes (get_or xs i 0) in
+    let bytes : c.to_be_bytes.result ≡ bytes_of 8 (get_or xs i 0) = c.to_be_bytes.ensures ∙ eight_bytes (get_or xs i 0) in
     let more = flat_map_more (bytes_of 8) m (take i xs) (get_or xs i 0) ∙ ap (λ ys. m ++ flat_map (bytes_of 8) ys) (sym (take_more xs i 0 here)) in
     subst (Holds c.update.new.self) (ap (λ z. (m ++ flat_map (bytes_of 8) (take i xs)) ++ z) bytes ∙ more) h
 

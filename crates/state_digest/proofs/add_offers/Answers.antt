@@ -34,7 +34,7 @@ some : (k : List ℕ) (n : ℕ) → length k ≡ n → 0 < n → k ≡ [] → �
 some k n e h z = omega (arith, e, ap length z)
 
 -- the offer that the loop comes to
-after : (g : _) (c : goal.After-add-offer g)
+after : (g : _) (c : goal.After-add_offer g)
     → Next place (g.B.OfferBook.orders c.args.book.now).book.offers (words c.loop-key.at) (words c.in-Some.key)
 after g c =
     let bk = (g.B.OfferBook.orders c.args.book.now).book in
@@ -56,7 +56,7 @@ loop-key-preserved g c = λ m k.
     let bytes : key_bytes c.in-Some.key ++ bytes_of 8 c.amount.result ≡ offer_bytes o = ap₂ (λ j v. key_bytes j ++ bytes_of 8 v) key amount in
     let before = c.loop-key.invariant m k in (
       before.0 ++ offer_bytes o,
-      subst (λ z. Holds c.add-offer.new.hasher (before.0 ++ z)) bytes (c.add-offer.ensures before.0 before.1),
+      subst (λ z. Holds c.add_offer.new.hasher (before.0 ++ z)) bytes (c.add_offer.ensures before.0 before.1),
       moved place offer_bytes bk.offers _ _ before.0 _ n before.2,
     )
 

@@ -38,10 +38,10 @@ returns-then-reading-bytes c =
     let t = step_took bs at (admits Grants) (shown c.in-ok-reading.reading.command) n c.in-ok-reading.ensures in
     let u = subst (λ x. Took bs at (admits Grants) (shown x) n) c.in-End.is t in
     inr
-    (i.0, subst (Stops is_grant bs) (sym c.fault-at.ensures) (stops_trailing is_grant bs i.1 at Grants i.2.reached n u c.if-reading-bytes.true))
+    (i.0, subst (Stops is_grant bs) (sym c.fault_at.ensures) (stops_trailing is_grant bs i.1 at Grants i.2.reached n u c.if-reading-bytes.true))
 
-pub invariant-of-result : goal.invariant-of-result
-invariant-of-result c =
+pub invariant_of-result : goal.invariant_of-result
+invariant_of-result c =
     let i = c.loop-at.invariant in
     let r = read c.args.bytes.now i.1 c.loop-at.at c.loop-at.grants c.loop-at.count i.2 _ _ c.in-ok-reading.ensures
     c.in-End.is c.if-reading-bytes.false i.0 in
@@ -74,7 +74,7 @@ pub bounds-grants-count : goal.bounds-grants-count
 bounds-grants-count c =
     let i = c.loop-at.invariant in
     let t = grant c.args.bytes.now c.loop-at.at c.in-ok-reading.reading.command c.in-ok-reading.reading.next _ _ _
-    c.in-ok-reading.ensures c.in-Found.is c.eight-balances.ensures in
+    c.in-ok-reading.ensures c.in-Found.is c.eight_balances.ensures in
     grant_fits c.args.bytes.now i.1 c.loop-at.at c.loop-at.grants c.loop-at.count i.2 _ _ t i.0
 
 pub loop-at-smaller : goal.loop-at-smaller
@@ -91,8 +91,8 @@ pub loop-at-preserved : goal.loop-at-preserved
 loop-at-preserved c =
     let i = c.loop-at.invariant in
     let t = grant c.args.bytes.now c.loop-at.at c.in-ok-reading.reading.command c.in-ok-reading.reading.next _ _ _
-    c.in-ok-reading.ensures c.in-Found.is c.eight-balances.ensures in
-    let g : Grant = record { account = c.in-Found.account; balances = c.eight-balances.result } in
+    c.in-ok-reading.ensures c.in-Found.is c.eight_balances.ensures in
+    let g : Grant = record { account = c.in-Found.account; balances = c.eight_balances.result } in
     (i.0, i.1 ++ found g ∷ [], gathered_more c.args.bytes.now i.1 c.loop-at.at c.loop-at.grants c.loop-at.count i.2 g _ t i.0)
 
 pub returns : goal.returns
@@ -101,6 +101,6 @@ returns c =
     let i = c.loop-at.invariant in
     inr (
       i.0,
-      subst (Stops is_grant bs) (sym c.fault-at-2.ensures)
+      subst (Stops is_grant bs) (sym c.fault_at-2.ensures)
           (stops_missing is_grant bs i.1 c.loop-at.at Grants i.2.reached c.loop-at-test.false),
     )

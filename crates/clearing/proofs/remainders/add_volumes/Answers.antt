@@ -37,7 +37,7 @@ pub loop-v-preserved : goal.loop-v-preserved
 loop-v-preserved c =
     let in8 = (in_pair c.args.volumes.now c.requires c.loop-v.v-index c.loop-v-test.true).0 in (
       simp length-set c.loop-v.invariant.0,
-      rw c.saturating-add.ensures
+      rw c.saturating_add.ensures
           (step c.args.volumes.now c.loop-v.v-index c.args.remainders.now c.loop-v.remainders c.loop-v-test.true c.loop-v.invariant.0 in8 c.loop-v.invariant.1),
     )
 

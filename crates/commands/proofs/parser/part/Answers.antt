@@ -4,7 +4,7 @@ use Rattle.commands.proofs.parser.part.Goals as goal
 
 pub returns : goal.returns
 returns g c =
-    let front = rw c.unwrap.ensures at c.first-chunk.ensures.cases in
+    let front = rw c.unwrap.ensures at c.first_chunk.ensures.cases in
     let bs = c.args.bytes.now in
     let at = c.args.at in
     let xs = take (at + g.row.N - at) (drop at bs) in

@@ -13,8 +13,8 @@ returns-then-not-precedes g c =
     let e = between_end o.book.offers (words c.loop-key.last) (words c.args.high) c.in-Some.key n (sym c.precedes.ensures ∙ c.if-not-precedes.true) in
     omega (arith, e, c.loop-key.invariant)
 
-pub overflow-add-total : goal.overflow-add-total
-overflow-add-total g c =
+pub overflow_add-total : goal.overflow_add-total
+overflow_add-total g c =
     let o = g.B.OfferBook.orders c.args.book.now in
     let n = next_in o.book o.sound (words c.loop-key.last) c.in-Some.key c.in-Some.ensures in
     let e = between_next o.book.offers (words c.loop-key.last) (words c.args.high) c.in-Some.key n (sym c.precedes.ensures ∙ c.if-not-precedes.false) in

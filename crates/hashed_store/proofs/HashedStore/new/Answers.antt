@@ -3,16 +3,16 @@ use Rattle.std.proofs.lemmas.List.{length-take-le}
 use Rattle.hashed_store.proofs.Stores.{Agrees, cleared}
 use Rattle.hashed_store.proofs.HashedStore.new.Goals as goal
 
-pub invariant-of-result : goal.invariant-of-result
-invariant-of-result c =
+pub invariant_of-result : goal.invariant_of-result
+invariant_of-result c =
     let n : length (take (c.min-n.result - 0) c.args.slots.now) ≡ c.min-n.result - 0 =
     length-take-le (c.min-n.result - 0) c.args.slots.now (omega (arith, c.min.ensures, c.min-n.ensures)) in
-    let m : length (take (2 * c.min-n.result - 0) c.split-at-mut-order.result.1.now) ≡ 2 * c.min-n.result - 0 =
-    length-take-le (2 * c.min-n.result - 0) c.split-at-mut-order.result.1.now (omega (arith, c.min.ensures, c.min-n.ensures, c.split-at-mut-order.ensures.back_len)) in
+    let m : length (take (2 * c.min-n.result - 0) c.split_at_mut-order.result.1.now) ≡ 2 * c.min-n.result - 0 =
+    length-take-le (2 * c.min-n.result - 0) c.split_at_mut-order.result.1.now (omega (arith, c.min.ensures, c.min-n.ensures, c.split_at_mut-order.ensures.back_len)) in
     let w =
     cleared c.args.top c.new.result.len _ (take (c.min-n.result - 0) c.args.slots.now) c.fill.new.self c.new.result.slots.now c.new.ensures.len
     (c.fill.ensures.after (λ y e. e))
-    (omega (arith, ap length c.new.ensures.slots, c.split-at-mut-order.ensures.front-len, n))
+    (omega (arith, ap length c.new.ensures.slots, c.split_at_mut-order.ensures.front_len, n))
     (omega (arith, c.fill.ensures.len, n, m))
     (omega (arith, n, c.min-n.ensures))
     (omega arith) in

@@ -39,12 +39,12 @@ returns-then-n-self c =
 pub unreachable-requires : goal.unreachable-requires
 unreachable-requires c = not_in_order c.args.self.now.top c.args.self.now.tables.order.len c.args.self.now.tables.slots.now c.args.self.now.tables.buckets.now (take c.args.self.now.tables.order.len c.args.self.now.tables.order.slots.now) (length-take-le c.args.self.now.tables.order.len c.args.self.now.tables.order.slots.now c.args.self.now.fits) c.args.self.now.sound c.args.self.now.laid c.args.self.now.linked c.args.number _ (record { number = 0; slot = 0 }) (omega arith) (sym (c.args.self.now.finds c.args.number (omega arith)) ∙ c.in-Free.ensures.2) (c.in-Ok.ensures (up c.args.self.now.top c.args.self.now.tables.order.len c.args.self.now.tables.slots.now c.args.self.now.tables.buckets.now (take c.args.self.now.tables.order.len c.args.self.now.tables.order.slots.now) (length-take-le c.args.self.now.tables.order.len c.args.self.now.tables.order.slots.now c.args.self.now.fits) c.args.self.now.sound c.args.self.now.laid c.args.self.now.linked))
 
-pub invariant-of-self : goal.invariant-of-self
-invariant-of-self c =
+pub invariant_of-self : goal.invariant_of-self
+invariant_of-self c =
     let w = entered c.args.self.now.top c.args.self.now.tables.order.len c.args.self.now.tables.slots.now c.args.self.now.tables.buckets.now c.args.self.now.tables.order.slots.now (record { fits = c.args.self.now.fits; even = c.args.self.now.even; roomy = c.args.self.now.roomy; parts = record { laid_all = c.args.self.now.laid; linked = c.args.self.now.linked; finds = c.args.self.now.finds; sums = c.args.self.now.sums; sound = c.args.self.now.sound } }) c.args.number c.in-Err.i c.in-Free.j c.enter.new.self.order.len (record { number = c.args.number; slot = c.len-n.result })
     c.enter.new.self.slots.now c.enter.new.self.buckets.now c.enter.new.self.order.slots.now refl (omega (arith, c.len-n.ensures, (length-take-le c.args.self.now.tables.order.len c.args.self.now.tables.order.slots.now c.args.self.now.fits))) (omega arith) (omega arith)
     (omega (arith, c.len-n.ensures, (length-take-le c.args.self.now.tables.order.len c.args.self.now.tables.order.slots.now c.args.self.now.fits))) (c.in-Err.ensures (up c.args.self.now.top c.args.self.now.tables.order.len c.args.self.now.tables.slots.now c.args.self.now.tables.buckets.now (take c.args.self.now.tables.order.len c.args.self.now.tables.order.slots.now) (length-take-le c.args.self.now.tables.order.len c.args.self.now.tables.order.slots.now c.args.self.now.fits) c.args.self.now.sound c.args.self.now.laid c.args.self.now.linked)) c.in-Free.ensures.0 c.in-Free.ensures.1 c.in-Free.ensures.3
-    (c.enter.ensures.slots ∙ ap (λ a. set c.args.self.now.tables.slots.now c.len-n.result a) c.new-account.ensures ∙ ap (λ k. set c.args.self.now.tables.slots.now k (fresh c.args.number)) (omega (arith, c.len-n.ensures, (length-take-le c.args.self.now.tables.order.len c.args.self.now.tables.order.slots.now c.args.self.now.fits)))) c.enter.ensures.buckets c.enter.ensures.len c.enter.ensures.fits c.enter.ensures.order in
+    (c.enter.ensures.slots ∙ ap (λ a. set c.args.self.now.tables.slots.now c.len-n.result a) c.new_account.ensures ∙ ap (λ k. set c.args.self.now.tables.slots.now k (fresh c.args.number)) (omega (arith, c.len-n.ensures, (length-take-le c.args.self.now.tables.order.len c.args.self.now.tables.order.slots.now c.args.self.now.fits)))) c.enter.ensures.buckets c.enter.ensures.len c.enter.ensures.fits c.enter.ensures.order in
     (w.1.fits, (w.1.even, (w.1.roomy, (w.1.parts.laid_all, (w.1.parts.linked, (w.1.parts.finds, (w.1.parts.sums, (w.1.parts.sound, tt))))))))
 
 pub returns-in-Err : goal.returns-in-Err
@@ -52,7 +52,7 @@ returns-in-Err c =
     let w = entered c.args.self.now.top c.args.self.now.tables.order.len c.args.self.now.tables.slots.now c.args.self.now.tables.buckets.now c.args.self.now.tables.order.slots.now (record { fits = c.args.self.now.fits; even = c.args.self.now.even; roomy = c.args.self.now.roomy; parts = record { laid_all = c.args.self.now.laid; linked = c.args.self.now.linked; finds = c.args.self.now.finds; sums = c.args.self.now.sums; sound = c.args.self.now.sound } }) c.args.number c.in-Err.i c.in-Free.j c.enter.new.self.order.len (record { number = c.args.number; slot = c.len-n.result })
     c.enter.new.self.slots.now c.enter.new.self.buckets.now c.enter.new.self.order.slots.now refl (omega (arith, c.len-n.ensures, (length-take-le c.args.self.now.tables.order.len c.args.self.now.tables.order.slots.now c.args.self.now.fits))) (omega arith) (omega arith)
     (omega (arith, c.len-n.ensures, (length-take-le c.args.self.now.tables.order.len c.args.self.now.tables.order.slots.now c.args.self.now.fits))) (c.in-Err.ensures (up c.args.self.now.top c.args.self.now.tables.order.len c.args.self.now.tables.slots.now c.args.self.now.tables.buckets.now (take c.args.self.now.tables.order.len c.args.self.now.tables.order.slots.now) (length-take-le c.args.self.now.tables.order.len c.args.self.now.tables.order.slots.now c.args.self.now.fits) c.args.self.now.sound c.args.self.now.laid c.args.self.now.linked)) c.in-Free.ensures.0 c.in-Free.ensures.1 c.in-Free.ensures.3
-    (c.enter.ensures.slots ∙ ap (λ a. set c.args.self.now.tables.slots.now c.len-n.result a) c.new-account.ensures ∙ ap (λ k. set c.args.self.now.tables.slots.now k (fresh c.args.number)) (omega (arith, c.len-n.ensures, (length-take-le c.args.self.now.tables.order.len c.args.self.now.tables.order.slots.now c.args.self.now.fits)))) c.enter.ensures.buckets c.enter.ensures.len c.enter.ensures.fits c.enter.ensures.order in
+    (c.enter.ensures.slots ∙ ap (λ a. set c.args.self.now.tables.slots.now c.len-n.result a) c.new_account.ensures ∙ ap (λ k. set c.args.self.now.tables.slots.now k (fresh c.args.number)) (omega (arith, c.len-n.ensures, (length-take-le c.args.self.now.tables.order.len c.args.self.now.tables.order.slots.now c.args.self.now.fits)))) c.enter.ensures.buckets c.enter.ensures.len c.enter.ensures.fits c.enter.ensures.order in
     record {
       answer = open_made (store_of c.args.self.now.top c.args.self.now.tables.slots.now (take c.args.self.now.tables.order.len c.args.self.now.tables.order.slots.now)) c.args.number c.if-number-eq0.false (omega arith) (none_of c.args.self.now.top c.args.self.now.tables.order.len c.args.self.now.tables.slots.now c.args.self.now.tables.buckets.now (take c.args.self.now.tables.order.len c.args.self.now.tables.order.slots.now) (length-take-le c.args.self.now.tables.order.len c.args.self.now.tables.order.slots.now c.args.self.now.fits) c.args.self.now.sound c.args.self.now.laid c.args.self.now.linked c.args.number (omega arith) (sym (c.args.self.now.finds c.args.number (omega arith)) ∙ c.in-Free.ensures.2) (λ _. 1)) (omega (arith, c.len-n.ensures, length-map (take c.args.self.now.tables.order.len c.args.self.now.tables.order.slots.now) (lying c.args.self.now.tables.slots.now)));
       after = w.0;

@@ -20,16 +20,16 @@ returns-then-asset-ge8 c =
 pub write-requires : goal.write-requires
 write-requires c = omega (arith, slot_below c.args.self.now.top c.args.self.now.tables.order.len c.args.self.now.tables.slots.now c.args.self.now.tables.buckets.now (take c.args.self.now.tables.order.len c.args.self.now.tables.order.slots.now) (length-take-le c.args.self.now.tables.order.len c.args.self.now.tables.order.slots.now c.args.self.now.fits) c.args.self.now.sound c.args.self.now.laid c.args.self.now.linked c.args.number c.in-Some.s c.in-Some.a c.in-Some.ensures, c.args.self.now.fits, c.args.self.now.even)
 
-pub invariant-of-self : goal.invariant-of-self
-invariant-of-self c =
+pub invariant_of-self : goal.invariant_of-self
+invariant_of-self c =
     let w = wrote c.args.self.now.top c.args.self.now.tables.order.len c.args.self.now.tables.slots.now c.args.self.now.tables.buckets.now c.args.self.now.tables.order.slots.now (record { fits = c.args.self.now.fits; even = c.args.self.now.even; roomy = c.args.self.now.roomy; parts = record { laid_all = c.args.self.now.laid; linked = c.args.self.now.linked; finds = c.args.self.now.finds; sums = c.args.self.now.sums; sound = c.args.self.now.sound } }) (λ t. BalanceSet (store_of c.args.self.now.top c.args.self.now.tables.slots.now (take c.args.self.now.tables.order.len c.args.self.now.tables.order.slots.now)) c.args.number c.args.asset c.args.value t) c.args.number c.in-Some.s c.in-Some.a (with_balance c.in-Some.a c.args.asset c.args.value) c.in-Some.ensures refl
     (sets_balance c.args.self.now.top c.args.self.now.tables.order.len c.args.self.now.tables.slots.now c.args.self.now.tables.buckets.now (take c.args.self.now.tables.order.len c.args.self.now.tables.order.slots.now) (length-take-le c.args.self.now.tables.order.len c.args.self.now.tables.order.slots.now c.args.self.now.fits) c.args.self.now.sound c.args.self.now.laid c.args.self.now.linked c.args.number c.in-Some.s c.in-Some.a c.in-Some.ensures c.args.asset c.args.value (omega (arith, c.args.self.now.fits, c.args.self.now.even)) (omega arith) (omega arith))
     c.write.new.self.order.len c.write.new.self.slots.now c.write.new.self.buckets.now c.write.new.self.order.slots.now
     c.write.ensures.slots c.write.ensures.buckets c.write.ensures.len c.write.ensures.order in
     (w.1.fits, (w.1.even, (w.1.roomy, (w.1.parts.laid_all, (w.1.parts.linked, (w.1.parts.finds, (w.1.parts.sums, (w.1.parts.sound, tt))))))))
 
-pub returns-else-value-gt-MAX-BALANCE : goal.returns-else-value-gt-MAX-BALANCE
-returns-else-value-gt-MAX-BALANCE c =
+pub returns-else-value-gt-MAX_BALANCE : goal.returns-else-value-gt-MAX_BALANCE
+returns-else-value-gt-MAX_BALANCE c =
     let w = wrote c.args.self.now.top c.args.self.now.tables.order.len c.args.self.now.tables.slots.now c.args.self.now.tables.buckets.now c.args.self.now.tables.order.slots.now (record { fits = c.args.self.now.fits; even = c.args.self.now.even; roomy = c.args.self.now.roomy; parts = record { laid_all = c.args.self.now.laid; linked = c.args.self.now.linked; finds = c.args.self.now.finds; sums = c.args.self.now.sums; sound = c.args.self.now.sound } }) (λ t. BalanceSet (store_of c.args.self.now.top c.args.self.now.tables.slots.now (take c.args.self.now.tables.order.len c.args.self.now.tables.order.slots.now)) c.args.number c.args.asset c.args.value t) c.args.number c.in-Some.s c.in-Some.a (with_balance c.in-Some.a c.args.asset c.args.value) c.in-Some.ensures refl
     (sets_balance c.args.self.now.top c.args.self.now.tables.order.len c.args.self.now.tables.slots.now c.args.self.now.tables.buckets.now (take c.args.self.now.tables.order.len c.args.self.now.tables.order.slots.now) (length-take-le c.args.self.now.tables.order.len c.args.self.now.tables.order.slots.now c.args.self.now.fits) c.args.self.now.sound c.args.self.now.laid c.args.self.now.linked c.args.number c.in-Some.s c.in-Some.a c.in-Some.ensures c.args.asset c.args.value (omega (arith, c.args.self.now.fits, c.args.self.now.even)) (omega arith) (omega arith))
     c.write.new.self.order.len c.write.new.self.slots.now c.write.new.self.buckets.now c.write.new.self.order.slots.now

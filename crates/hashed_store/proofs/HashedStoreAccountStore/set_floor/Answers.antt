@@ -11,8 +11,8 @@ use Rattle.hashed_store.proofs.HashedStoreAccountStore.set_floor.Goals as goal
 pub write-requires : goal.write-requires
 write-requires c = omega (arith, slot_below c.args.self.now.top c.args.self.now.tables.order.len c.args.self.now.tables.slots.now c.args.self.now.tables.buckets.now (take c.args.self.now.tables.order.len c.args.self.now.tables.order.slots.now) (length-take-le c.args.self.now.tables.order.len c.args.self.now.tables.order.slots.now c.args.self.now.fits) c.args.self.now.sound c.args.self.now.laid c.args.self.now.linked c.args.number c.in-Some.s c.in-Some.a c.in-Some.ensures, c.args.self.now.fits, c.args.self.now.even)
 
-pub invariant-of-self : goal.invariant-of-self
-invariant-of-self c =
+pub invariant_of-self : goal.invariant_of-self
+invariant_of-self c =
     let w = wrote c.args.self.now.top c.args.self.now.tables.order.len c.args.self.now.tables.slots.now c.args.self.now.tables.buckets.now c.args.self.now.tables.order.slots.now (record { fits = c.args.self.now.fits; even = c.args.self.now.even; roomy = c.args.self.now.roomy; parts = record { laid_all = c.args.self.now.laid; linked = c.args.self.now.linked; finds = c.args.self.now.finds; sums = c.args.self.now.sums; sound = c.args.self.now.sound } }) (λ t. FloorSet (store_of c.args.self.now.top c.args.self.now.tables.slots.now (take c.args.self.now.tables.order.len c.args.self.now.tables.order.slots.now)) c.args.number c.args.value t) c.args.number c.in-Some.s c.in-Some.a (with_floor c.in-Some.a c.args.value) c.in-Some.ensures refl
     (sets_floor c.args.self.now.top c.args.self.now.tables.order.len c.args.self.now.tables.slots.now c.args.self.now.tables.buckets.now (take c.args.self.now.tables.order.len c.args.self.now.tables.order.slots.now) (length-take-le c.args.self.now.tables.order.len c.args.self.now.tables.order.slots.now c.args.self.now.fits) c.args.self.now.sound c.args.self.now.laid c.args.self.now.linked c.args.number c.in-Some.s c.in-Some.a c.in-Some.ensures c.args.value (omega (arith, c.args.self.now.fits, c.args.self.now.even)) (omega arith))
     c.write.new.self.order.len c.write.new.self.slots.now c.write.new.self.buckets.now c.write.new.self.order.slots.now

@@ -3,8 +3,8 @@ use Rattle.hashed_store.specs.Probing.{start}
 use Rattle.hashed_store.proofs.Starts.{scaled}
 use Rattle.hashed_store.proofs.tables.hash.Goals as goal
 
-pub overflow-cast-result-3 : goal.overflow-cast-result-3
-overflow-cast-result-3 c =
+pub overflow_cast-result-3 : goal.overflow_cast-result-3
+overflow_cast-result-3 c =
     let lt = scaled (c.args.number * 2654435769 % 4294967296) c.args.size (omega arith) c.requires in
     search rules
 

@@ -9,11 +9,11 @@ returns g c = λ (t, small, once).
     let r = c.args.self.now in
     let v = c.args.v in
     let o = g.B.OfferBook.orders r.book.now in
-    let net = c.look-up-net.result in
+    let net = c.look_up-net.result in
     let d : ℕ = supply (scene no_store o.book 0 []) (deal r.prices.now [] r.transactions.now) v.sold v.bought in
-    let e = supplied o.book r.prices.now r.transactions.now v.sold v.bought o.sound once c.highest-limit-limit.result c.highest-limit-limit.ensures in
-    let m = c.look-up-net.ensures.minus t.rising ∙ t.minus (v.sold ∷ v.bought ∷ []) in
-    let p = c.look-up-net.ensures.plus t.rising ∙ t.plus (v.sold ∷ v.bought ∷ []) in
-    let n = c.look-up-net.ensures.small small in
-    ap₂ ltb c.saturating-add.ensures c.saturating-add-2.ensures
-    ∙ fewer d net.minus c.up-to-resting.result net.plus v.amount (omega (arith, e, c.up-to-resting.ensures, m, p)) (omega arith) (omega arith) n.0 n.1
+    let e = supplied o.book r.prices.now r.transactions.now v.sold v.bought o.sound once c.highest_limit-limit.result c.highest_limit-limit.ensures in
+    let m = c.look_up-net.ensures.minus t.rising ∙ t.minus (v.sold ∷ v.bought ∷ []) in
+    let p = c.look_up-net.ensures.plus t.rising ∙ t.plus (v.sold ∷ v.bought ∷ []) in
+    let n = c.look_up-net.ensures.small small in
+    ap₂ ltb c.saturating_add.ensures c.saturating_add-2.ensures
+    ∙ fewer d net.minus c.up_to-resting.result net.plus v.amount (omega (arith, e, c.up_to-resting.ensures, m, p)) (omega arith) (omega arith) n.0 n.1

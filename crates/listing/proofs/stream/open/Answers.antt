@@ -7,7 +7,7 @@ use Rattle.listing.proofs.stream.open.Goals as goal
 pub returns-in-err-found : goal.returns-in-err-found
 returns-in-err-found g c =
     let p = err_from_is_err_and c.from-residual-in-err-found.result c.from-residual-in-err-found.ensures.1 in
-    rw (p.1, p.2) (unopened _ _ _ _ _ _ c.in-ok-n.ensures c.split-at.ensures.front c.in-err-found.ensures)
+    rw (p.1, p.2) (unopened _ _ _ _ _ _ c.in-ok-n.ensures c.split_at.ensures.front c.in-err-found.ensures)
 
 pub returns : goal.returns
-returns g c = opens _ _ _ _ _ _ c.in-ok-n.ensures c.split-at.ensures.front c.split-at.ensures.back c.in-ok-found.ensures
+returns g c = opens _ _ _ _ _ _ c.in-ok-n.ensures c.split_at.ensures.front c.split_at.ensures.back c.in-ok-found.ensures

@@ -4,8 +4,8 @@ use Rattle.listing.proofs.stream.take_blocks.Goals as goal
 
 pub loop-rest-preserved : goal.loop-rest-preserved
 loop-rest-preserved g c =
-    goes_on _ _ _ _ _ _ c.loop-rest.invariant _ c.in-Ok.n _ _ c.take-block-line.result _ c.in-Ok.ensures c.split-at.ensures.front c.split-at.ensures.back
-    c.take-block-line.ensures c.in-ok-push.ensures.items
+    goes_on _ _ _ _ _ _ c.loop-rest.invariant _ c.in-Ok.n _ _ c.take_block-line.result _ c.in-Ok.ensures c.split_at.ensures.front c.split_at.ensures.back
+    c.take_block-line.ensures c.in-ok-push.ensures.items
 
 pub returns-in-Err : goal.returns-in-Err
 returns-in-Err g c = λ sound.

@@ -4,19 +4,19 @@ use Rattle.lives.specs.Events.{held_of}
 use Rattle.lives.proofs.run.step.Goals as goal
 
 pub returns-in-Found : goal.returns-in-Found
-returns-in-Found g c = simp c.in-Found.is (c.found-on.ensures (held_of (vec_items c.args.held.now)))
+returns-in-Found g c = simp c.in-Found.is (c.found_on.ensures (held_of (vec_items c.args.held.now)))
 
 pub returns-in-Check : goal.returns-in-Check
-returns-in-Check g c = simp c.in-Check.is c.check-on.ensures
+returns-in-Check g c = simp c.in-Check.is c.check_on.ensures
 
 pub returns-in-Fill : goal.returns-in-Fill
-returns-in-Fill g c = simp c.in-Fill.is c.fill-at.ensures
+returns-in-Fill g c = simp c.in-Fill.is c.fill_at.ensures
 
 pub returns-in-Commit : goal.returns-in-Commit
-returns-in-Commit g c = simp c.in-Commit.is c.commit-at.ensures
+returns-in-Commit g c = simp c.in-Commit.is c.commit_at.ensures
 
 pub returns-in-Reject : goal.returns-in-Reject
-returns-in-Reject g c = simp c.in-Reject.is c.reject-at.ensures
+returns-in-Reject g c = simp c.in-Reject.is c.reject_at.ensures
 
 pub returns-in-Ask : goal.returns-in-Ask
 returns-in-Ask g c = simp c.in-Ask.is (λ steady gs. (gs, (ap told c.ask.ensures, refl)))

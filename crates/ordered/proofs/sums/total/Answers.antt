@@ -7,7 +7,7 @@ pub loop-x-preserved : goal.loop-x-preserved
 loop-x-preserved g c =
     let step = sum_by_more (λ x. g.R.Amounts.amount x c.args.by) c.args.records.now c.loop-x.x-index c.x-item.result (omega arith) in
     let item = ap (λ x. g.R.Amounts.amount x c.args.by) c.x-item.is in
-    omega (arith, step, item, c.amount.ensures, c.saturating-add-sum.ensures, c.loop-x.invariant)
+    omega (arith, step, item, c.amount.ensures, c.saturating_add-sum.ensures, c.loop-x.invariant)
 
 pub returns : goal.returns
 returns g c =

@@ -3,5 +3,5 @@ use Rattle.ordered.proofs.Shift.{insert_is}
 
 pub returns : goal.returns
 returns g c =
-    insert_is c.args.slots.now c.copy-within.new.self c.args.len c.args.at c.args.item
-    c.requires.0 c.requires.1 c.copy-within.ensures.len c.copy-within.ensures.by_index.0 c.copy-within.ensures.by_index.1
+    insert_is c.args.slots.now c.copy_within.new.self c.args.len c.args.at c.args.item
+    c.requires.0 c.requires.1 c.copy_within.ensures.len c.copy_within.ensures.by_index.0 c.copy_within.ensures.by_index.1

@@ -26,31 +26,31 @@ returns-then-len-capacity c =
       after = refl;
     }
 
-pub returns-then-not-in-range : goal.returns-then-not-in-range
-returns-then-not-in-range c =
+pub returns-then-not-in_range : goal.returns-then-not-in_range
+returns-then-not-in_range c =
     let s = c.args.self.now in
     let gap = c.in-Err.ensures (ok s.table.len s.table.slots.now s.fits s.sound).up in
     record {
-      answer = ap Err c.refusal-then-not-in-range.ensures
+      answer = ap Err c.refusal-then-not-in_range.ensures
           ∙ place_out (book_of s.table.len s.table.slots.now) c.args.key c.args.units
-          (amount_none s.table.len s.table.slots.now s.fits s.sound c.args.key _ gap) (omega arith) (sym c.in_range.ensures ∙ c.if-not-in-range.true);
+          (amount_none s.table.len s.table.slots.now s.fits s.sound c.args.key _ gap) (omega arith) (sym c.in_range.ensures ∙ c.if-not-in_range.true);
       after = refl;
     }
 
-pub invariant-of-self : goal.invariant-of-self
-invariant-of-self c =
+pub invariant_of-self : goal.invariant_of-self
+invariant_of-self c =
     let s = c.args.self.now in
     let gap = c.in-Err.ensures (ok s.table.len s.table.slots.now s.fits s.sound).up in
     let o = places s.table.len s.table.slots.now s.fits s.sound c.args.key c.args.units c.in-Err.i c.insert.new.self.len c.insert.new.self.slots.now c.insert.result
-    (sym c.in_range.ensures ∙ c.if-not-in-range.false) gap (omega (arith, rows s.table.len s.table.slots.now s.fits s.sound))
+    (sym c.in_range.ensures ∙ c.if-not-in_range.false) gap (omega (arith, rows s.table.len s.table.slots.now s.fits s.sound))
     c.insert.ensures.done c.insert.ensures.len c.insert.ensures.fits c.insert.ensures.records in
     (o.2, (o.1, tt))
 
-pub returns-else-not-in-range : goal.returns-else-not-in-range
-returns-else-not-in-range c =
+pub returns-else-not-in_range : goal.returns-else-not-in_range
+returns-else-not-in_range c =
     let s = c.args.self.now in
     let gap = c.in-Err.ensures (ok s.table.len s.table.slots.now s.fits s.sound).up in
-    let fit = sym c.in_range.ensures ∙ c.if-not-in-range.false in
+    let fit = sym c.in_range.ensures ∙ c.if-not-in_range.false in
     let o = places s.table.len s.table.slots.now s.fits s.sound c.args.key c.args.units c.in-Err.i c.insert.new.self.len c.insert.new.self.slots.now c.insert.result
     fit gap (omega (arith, rows s.table.len s.table.slots.now s.fits s.sound))
     c.insert.ensures.done c.insert.ensures.len c.insert.ensures.fits c.insert.ensures.records in

@@ -15,8 +15,8 @@ returns-then-units-o c =
       after = refl;
     }
 
-pub invariant-of-self : goal.invariant-of-self
-invariant-of-self c =
+pub invariant_of-self : goal.invariant_of-self
+invariant_of-self c =
     let s = c.args.self.now in
     let o = takes s.table.len s.table.slots.now s.fits s.sound c.args.key c.args.units c.in-Some.i c.remove.new.self.len c.in-Some.o c.remove.new.self.slots.now c.remove.result
     c.in-Some.ensures.0 c.in-Some.ensures.1 c.remove.ensures.done c.remove.ensures.fits c.if-units-eq0.true c.remove.ensures.len c.remove.ensures.records in
@@ -31,8 +31,8 @@ returns-then-units-eq0 c =
     at c.in-Some.ensures.1 c.remove.ensures.done c.remove.ensures.fits c.if-units-eq0.true c.remove.ensures.len c.remove.ensures.records in
     record { answer = reduce_made (book_of s.table.len s.table.slots.now) c.args.key c.args.units h.1 (omega arith); after = o.0 }
 
-pub invariant-of-self-in-Some : goal.invariant-of-self-in-Some
-invariant-of-self-in-Some c =
+pub invariant_of-self-in-Some : goal.invariant_of-self-in-Some
+invariant_of-self-in-Some c =
     let s = c.args.self.now in
     let o = shrinks s.table.len s.table.slots.now s.fits s.sound c.args.key c.args.units c.in-Some.i c.set.new.self.len c.in-Some.o c.set.new.self.slots.now c.set.result
     c.in-Some.ensures.0 c.in-Some.ensures.1 c.set.ensures.done c.set.ensures.fits (omega arith) (omega arith) c.set.ensures.len c.set.ensures.records in

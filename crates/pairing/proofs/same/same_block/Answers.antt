@@ -19,19 +19,19 @@ returns-in-default c =
     unlike Readable Rearranged bs cs (λ e. both_ways c.eq.result c.if-eq.false ((slice_eq-Decides Decides-eqb bs cs c.eq.result c.eq.ensures).1 e))
     (λ x y p q. read_one_way.block_or_fault bs x c.in-default.field-0 p c.in-default.ensures)
 
-pub returns-in-default-read-block : goal.returns-in-default-read-block
-returns-in-default-read-block c =
+pub returns-in-default-read_block : goal.returns-in-default-read_block
+returns-in-default-read_block c =
     let bs = c.args.first.now in
     let cs = c.args.second.now in
     unlike Readable Rearranged bs cs (λ e. both_ways c.eq.result c.if-eq.false ((slice_eq-Decides Decides-eqb bs cs c.eq.result c.eq.ensures).1 e))
-    (λ x y p q. read_one_way.block_or_fault cs y c.in-default-read-block.field-0 q c.in-default-read-block.ensures)
+    (λ x y p q. read_one_way.block_or_fault cs y c.in-default-read_block.field-0 q c.in-default-read_block.ensures)
 
 pub returns : goal.returns
 returns c =
     let bs = c.args.first.now in
     let cs = c.args.second.now in
     let x = block_of c.in-Ok.one in
-    let y = block_of c.in-Ok-read-block.other in
+    let y = block_of c.in-Ok-read_block.other in
     alike Readable Rearranged bs cs (λ e. both_ways c.eq.result c.if-eq.false ((slice_eq-Decides Decides-eqb bs cs c.eq.result c.eq.ensures).1 e))
-    x y (λ z p. read_one_way.block bs z x p c.in-Ok.ensures) (λ z p. read_one_way.block cs z y p c.in-Ok-read-block.ensures)
-    c.in-Ok.ensures c.in-Ok-read-block.ensures c.rearranged.result c.rearranged.ensures
+    x y (λ z p. read_one_way.block bs z x p c.in-Ok.ensures) (λ z p. read_one_way.block cs z y p c.in-Ok-read_block.ensures)
+    c.in-Ok.ensures c.in-Ok-read_block.ensures c.rearranged.result c.rearranged.ensures

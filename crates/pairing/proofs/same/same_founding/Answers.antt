@@ -19,19 +19,19 @@ returns-in-default c =
     unlike Founds IsPermutation bs cs (λ e. both_ways c.eq.result c.if-eq.false ((slice_eq-Decides Decides-eqb bs cs c.eq.result c.eq.ensures).1 e))
     (λ x y p q. read_one_way.founding_or_fault bs x c.in-default.field-0 p c.in-default.ensures)
 
-pub returns-in-default-read-founding : goal.returns-in-default-read-founding
-returns-in-default-read-founding c =
+pub returns-in-default-read_founding : goal.returns-in-default-read_founding
+returns-in-default-read_founding c =
     let bs = c.args.first.now in
     let cs = c.args.second.now in
     unlike Founds IsPermutation bs cs (λ e. both_ways c.eq.result c.if-eq.false ((slice_eq-Decides Decides-eqb bs cs c.eq.result c.eq.ensures).1 e))
-    (λ x y p q. read_one_way.founding_or_fault cs y c.in-default-read-founding.field-0 q c.in-default-read-founding.ensures)
+    (λ x y p q. read_one_way.founding_or_fault cs y c.in-default-read_founding.field-0 q c.in-default-read_founding.ensures)
 
 pub returns : goal.returns
 returns c =
     let bs = c.args.first.now in
     let cs = c.args.second.now in
     let x = grants_of c.in-Ok.one in
-    let y = grants_of c.in-Ok-read-founding.other in
+    let y = grants_of c.in-Ok-read_founding.other in
     alike Founds IsPermutation bs cs (λ e. both_ways c.eq.result c.if-eq.false ((slice_eq-Decides Decides-eqb bs cs c.eq.result c.eq.ensures).1 e))
-    x y (λ z p. read_one_way.founding bs z x p c.in-Ok.ensures) (λ z p. read_one_way.founding cs z y p c.in-Ok-read-founding.ensures)
-    c.in-Ok.ensures c.in-Ok-read-founding.ensures c.regranted.result c.regranted.ensures
+    x y (λ z p. read_one_way.founding bs z x p c.in-Ok.ensures) (λ z p. read_one_way.founding cs z y p c.in-Ok-read_founding.ensures)
+    c.in-Ok.ensures c.in-Ok-read_founding.ensures c.regranted.result c.regranted.ensures

@@ -25,7 +25,7 @@ returns c =
         height = sym c.height-2.ensures ∙ sym c.if-height.false ∙ c.height.ensures;
         parent = sym c.parent-2.ensures ∙ sym p ∙ c.parent.ensures;
         prices = sym c.prices-2.ensures ∙ sym q ∙ c.prices.ensures;
-        volumes = sym c.volumes-2.ensures ∙ sym (c.same-volumes.ensures.0 e) ∙ c.volumes.ensures;
+        volumes = sym c.volumes-2.ensures ∙ sym (c.same_volumes.ensures.0 e) ∙ c.volumes.ensures;
       },
-      λ s. c.same-volumes.ensures.1 (c.volumes.ensures ∙ sym s.volumes ∙ sym c.volumes-2.ensures),
+      λ s. c.same_volumes.ensures.1 (c.volumes.ensures ∙ sym s.volumes ∙ sym c.volumes-2.ensures),
     )

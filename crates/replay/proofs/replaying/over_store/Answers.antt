@@ -4,13 +4,13 @@ use Rattle.replay.proofs.replaying.over_store.Goals as goal
 
 pub returns-in-ok-trie : goal.returns-in-ok-trie
 returns-in-ok-trie g c =
-    let nodes = c.saturating-sub.result in
-    let size : min ((nodes + 1) / 2) 65536 ≡ min c.args.offers 65536 = omega (arith, c.saturating-mul.ensures, c.saturating-sub.ensures) in
-    exchanged _ _ _ _ _ _ refl (book_by_size _ _ _ c.in-ok-trie.ensures size) c.list-stream.ensures
+    let nodes = c.saturating_sub.result in
+    let size : min ((nodes + 1) / 2) 65536 ≡ min c.args.offers 65536 = omega (arith, c.saturating_mul.ensures, c.saturating_sub.ensures) in
+    exchanged _ _ _ _ _ _ refl (book_by_size _ _ _ c.in-ok-trie.ensures size) c.list_stream.ensures
 
 pub returns-in-ok-slots : goal.returns-in-ok-slots
 returns-in-ok-slots g c =
-    let slots = c.as-mut-slice.result.now in
+    let slots = c.as_mut_slice.result.now in
     let made = c.in-ok-slots.ensures.made in
-    let size : min (length slots) 65536 ≡ min c.args.offers 65536 = omega (arith, c.as-mut-slice.ensures.len, made) in
-    exchanged _ _ _ _ _ _ refl (book_by_size _ _ _ c.new-table.ensures size) c.list-stream-in-Table.ensures
+    let size : min (length slots) 65536 ≡ min c.args.offers 65536 = omega (arith, c.as_mut_slice.ensures.len, made) in
+    exchanged _ _ _ _ _ _ refl (book_by_size _ _ _ c.new-table.ensures size) c.list_stream-in-Table.ensures

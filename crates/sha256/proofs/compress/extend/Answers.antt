@@ -20,8 +20,8 @@ loop-t-preserved c =
       length-set _ _ _ ∙ c.loop-t.invariant.0,
       λ first f.
           ap (λ (x : _). take (t + 1) (set w t x))
-          (ap (λ y. plus (plus (plus y (get_or w (t - 7) 0)) c.small-sigma0.result) (get_or w (t - 16) 0)) c.small-sigma1.ensures
-          ∙ ap (λ y. plus (plus (plus (small_sigma1 (get_or w (t - 2) 0)) (get_or w (t - 7) 0)) y) (get_or w (t - 16) 0)) c.small-sigma0.ensures)
+          (ap (λ y. plus (plus (plus y (get_or w (t - 7) 0)) c.small_sigma0.result) (get_or w (t - 16) 0)) c.small_sigma1.ensures
+          ∙ ap (λ y. plus (plus (plus (small_sigma1 (get_or w (t - 2) 0)) (get_or w (t - 7) 0)) y) (get_or w (t - 16) 0)) c.small_sigma0.ensures)
           ∙ one_word w first t low high (c.loop-t.invariant.1 first f),
     )
 

@@ -6,10 +6,10 @@ use Rattle.sorted_store.specs.Rows.{store_of}
 use Rattle.sorted_store.proofs.Slots.{ok, rows, one_at, none_at, opens}
 use Rattle.sorted_store.proofs.SortedStoreAccountStore.open.Goals as goal
 
-pub invariant-of-self : goal.invariant-of-self
-invariant-of-self c =
+pub invariant_of-self : goal.invariant_of-self
+invariant_of-self c =
     let o = opens c.args.self.now.table.len c.args.self.now.top c.args.self.now.table.slots.now c.args.self.now.fits c.args.self.now.sound c.args.number c.in-Err.i c.insert.new.self.len c.insert.new.self.slots.now c.insert.result (omega arith) (omega arith) (c.in-Err.ensures (ok c.args.self.now.table.len c.args.self.now.top c.args.self.now.table.slots.now c.args.self.now.fits c.args.self.now.sound).up)
-    (omega (arith, rows c.args.self.now.table.len c.args.self.now.top c.args.self.now.table.slots.now c.args.self.now.fits c.args.self.now.sound)) c.insert.ensures.done c.insert.ensures.len c.insert.ensures.fits (c.insert.ensures.records ∙ ap (λ a. cond c.insert.result (insert (take c.args.self.now.table.len c.args.self.now.table.slots.now) c.in-Err.i a) (take c.args.self.now.table.len c.args.self.now.table.slots.now)) c.new-account.ensures) in
+    (omega (arith, rows c.args.self.now.table.len c.args.self.now.top c.args.self.now.table.slots.now c.args.self.now.fits c.args.self.now.sound)) c.insert.ensures.done c.insert.ensures.len c.insert.ensures.fits (c.insert.ensures.records ∙ ap (λ a. cond c.insert.result (insert (take c.args.self.now.table.len c.args.self.now.table.slots.now) c.in-Err.i a) (take c.args.self.now.table.len c.args.self.now.table.slots.now)) c.new_account.ensures) in
     (o.2, (o.1, tt))
 
 pub returns-in-Ok : goal.returns-in-Ok
@@ -29,7 +29,7 @@ returns-then-len-capacity c =
 pub returns-else-len-capacity : goal.returns-else-len-capacity
 returns-else-len-capacity c =
     let o = opens c.args.self.now.table.len c.args.self.now.top c.args.self.now.table.slots.now c.args.self.now.fits c.args.self.now.sound c.args.number c.in-Err.i c.insert.new.self.len c.insert.new.self.slots.now c.insert.result (omega arith) (omega arith) (c.in-Err.ensures (ok c.args.self.now.table.len c.args.self.now.top c.args.self.now.table.slots.now c.args.self.now.fits c.args.self.now.sound).up)
-    (omega (arith, rows c.args.self.now.table.len c.args.self.now.top c.args.self.now.table.slots.now c.args.self.now.fits c.args.self.now.sound)) c.insert.ensures.done c.insert.ensures.len c.insert.ensures.fits (c.insert.ensures.records ∙ ap (λ a. cond c.insert.result (insert (take c.args.self.now.table.len c.args.self.now.table.slots.now) c.in-Err.i a) (take c.args.self.now.table.len c.args.self.now.table.slots.now)) c.new-account.ensures) in
+    (omega (arith, rows c.args.self.now.table.len c.args.self.now.top c.args.self.now.table.slots.now c.args.self.now.fits c.args.self.now.sound)) c.insert.ensures.done c.insert.ensures.len c.insert.ensures.fits (c.insert.ensures.records ∙ ap (λ a. cond c.insert.result (insert (take c.args.self.now.table.len c.args.self.now.table.slots.now) c.in-Err.i a) (take c.args.self.now.table.len c.args.self.now.table.slots.now)) c.new_account.ensures) in
     record {
       answer = open_made (store_of c.args.self.now.table.len c.args.self.now.top c.args.self.now.table.slots.now) c.args.number c.if-number-eq0.false (omega arith) (none_at c.args.self.now.table.len c.args.self.now.top c.args.self.now.table.slots.now c.args.self.now.fits c.args.self.now.sound _ _ (c.in-Err.ensures (ok c.args.self.now.table.len c.args.self.now.top c.args.self.now.table.slots.now c.args.self.now.fits c.args.self.now.sound).up) (λ _. 1)) (omega arith);
       after = o.0;

@@ -14,14 +14,14 @@ returns-then-asset-ge8 c =
       after = refl;
     }
 
-pub invariant-of-self : goal.invariant-of-self
-invariant-of-self c =
+pub invariant_of-self : goal.invariant_of-self
+invariant_of-self c =
     let o = sets_balance c.args.self.now.table.len c.args.self.now.top c.args.self.now.table.slots.now c.args.self.now.fits c.args.self.now.sound c.args.number c.args.asset c.args.value c.in-Some.i c.set.new.self.len c.in-Some.a c.set.new.self.slots.now c.set.result
     c.in-Some.ensures.0 c.in-Some.ensures.1 (omega arith) (omega arith) c.set.ensures.done c.set.ensures.len c.set.ensures.fits c.set.ensures.records in
     (o.2, (o.1, tt))
 
-pub returns-else-value-gt-MAX-BALANCE : goal.returns-else-value-gt-MAX-BALANCE
-returns-else-value-gt-MAX-BALANCE c =
+pub returns-else-value-gt-MAX_BALANCE : goal.returns-else-value-gt-MAX_BALANCE
+returns-else-value-gt-MAX_BALANCE c =
     let o = sets_balance c.args.self.now.table.len c.args.self.now.top c.args.self.now.table.slots.now c.args.self.now.fits c.args.self.now.sound c.args.number c.args.asset c.args.value c.in-Some.i c.set.new.self.len c.in-Some.a c.set.new.self.slots.now c.set.result
     c.in-Some.ensures.0 c.in-Some.ensures.1 (omega arith) (omega arith) c.set.ensures.done c.set.ensures.len c.set.ensures.fits c.set.ensures.records in
     record {

@@ -17,13 +17,13 @@ small g c =
     subst Small (get_or-take c.args.n to (c.args.n - 1) c.index-to-n.result i ∙ sym c.index-to-n.is)
     (All-get_or Small (take c.args.n to) (c.args.n - 1) c.index-to-n.result m c.requires.small)
 
-pub overflow-add-to : goal.overflow-add-to
-overflow-add-to g c =
+pub overflow_add-to : goal.overflow_add-to
+overflow_add-to g c =
     let h = small g c in
     omega (arith, h.0)
 
-pub overflow-add-to-then-not-precedes : goal.overflow-add-to-then-not-precedes
-overflow-add-to-then-not-precedes g c =
+pub overflow_add-to-then-not-precedes : goal.overflow_add-to-then-not-precedes
+overflow_add-to-then-not-precedes g c =
     let h = small g c in
     omega (arith, h.1)
 

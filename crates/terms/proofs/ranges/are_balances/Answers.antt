@@ -15,8 +15,8 @@ loop-balance-preserved c =
 pub returns : goal.returns
 returns c = sym (c.loop-balance.invariant ∙ at_drop_all (every is_balance) c.args.balances.now c.loop-balance.balance-index c.loop-balance-test.false)
 
-pub returns-then-balance-gt-MAX-BALANCE : goal.returns-then-balance-gt-MAX-BALANCE
-returns-then-balance-gt-MAX-BALANCE c =
+pub returns-then-balance-gt-MAX_BALANCE : goal.returns-then-balance-gt-MAX_BALANCE
+returns-then-balance-gt-MAX_BALANCE c =
     let xs = c.args.balances.now in
     let i = c.loop-balance.balance-index in
     let e = at_drop_more (every is_balance) xs i 0 c.loop-balance-test.true in

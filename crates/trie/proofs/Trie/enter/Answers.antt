@@ -20,8 +20,8 @@ place-requires c =
       some = c.requires.some;
     }
 
-pub invariant-of-self-2 : goal.invariant-of-self-2
-invariant-of-self-2 c =
+pub invariant_of-self-2 : goal.invariant_of-self-2
+invariant_of-self-2 c =
     let s = c.args.self.now in
     let w = of_whole s.root s.ok (omega arith) in
     let e = c.place.ensures in

@@ -24,7 +24,7 @@ pub place-requires : goal.place-requires
 place-requires t c =
     let s = sides c.in-Branch.is c.requires.ok in
     let side = side_left c.in-Branch.split c.args.key c.in-Branch.bit s.middle c.if-key-bit.true c.if-key-split.true in
-    rw c.deref-mut.ensures.value (
+    rw c.deref_mut.ensures.value (
       omega (arith, s.falls, c.decreases),
       (
         s.left_ok,
@@ -42,7 +42,7 @@ pub place-requires-else-key-split : goal.place-requires-else-key-split
 place-requires-else-key-split t c =
     let s = sides c.in-Branch.is c.requires.ok in
     let side = side_right c.in-Branch.split c.args.key c.in-Branch.bit s.middle c.if-key-bit.true c.if-key-split.false in
-    rw c.deref-mut-else-key-split.ensures.value (
+    rw c.deref_mut-else-key-split.ensures.value (
       omega (arith, s.falls, c.decreases),
       (
         s.right_ok,
@@ -73,12 +73,12 @@ pub returns-then-key-split : goal.returns-then-key-split
 returns-then-key-split t c =
     let s = sides c.in-Branch.is c.requires.ok in
     let side = side_left c.in-Branch.split c.args.key c.in-Branch.bit s.middle c.if-key-bit.true c.if-key-split.true in
-    let e = rw c.deref-mut.ensures.value at c.place.ensures in
+    let e = rw c.deref_mut.ensures.value at c.place.ensures in
     placed_left s c.args.key c.args.amount c.place.new.node (omega (arith, side, block c.args.key c.in-Branch.bit)) c.if-key-split.true e c.in-Branch.left c.in-Branch.right
 
 pub returns-else-key-split : goal.returns-else-key-split
 returns-else-key-split t c =
     let s = sides c.in-Branch.is c.requires.ok in
     let side = side_right c.in-Branch.split c.args.key c.in-Branch.bit s.middle c.if-key-bit.true c.if-key-split.false in
-    let e = rw c.deref-mut-else-key-split.ensures.value at c.place-else-key-split.ensures in
+    let e = rw c.deref_mut-else-key-split.ensures.value at c.place-else-key-split.ensures in
     placed_right s c.args.key c.args.amount c.place-else-key-split.new.node c.if-key-split.false (omega (arith, side, block c.args.key c.in-Branch.bit)) e c.in-Branch.left c.in-Branch.right

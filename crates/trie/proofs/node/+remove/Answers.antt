@@ -3,32 +3,32 @@ use Rattle.trie.specs.Trie.{Ordered, forks}
 use Rattle.trie.proofs.Sides.{sides, held_total, removed_left, removed_right, leaf_is}
 use Rattle.trie.proofs.node.+remove.Goals as goal
 
-pub overflow-sub-sum : goal.overflow-sub-sum
-overflow-sub-sum t c =
+pub overflow_sub-sum : goal.overflow_sub-sum
+overflow_sub-sum t c =
     let s = sides c.in-Branch.is c.requires.ok in
     omega (arith, held_total c.args.node.now c.args.key, s.whole, s.adds, c.requires.stands)
 
-pub overflow-sub-sum-then-is-branch-2 : goal.overflow-sub-sum-then-is-branch-2
-overflow-sub-sum-then-is-branch-2 t c =
+pub overflow_sub-sum-then-is_branch-2 : goal.overflow_sub-sum-then-is_branch-2
+overflow_sub-sum-then-is_branch-2 t c =
     let s = sides c.in-Branch.is c.requires.ok in
     omega (arith, held_total c.args.node.now c.args.key, s.whole, s.adds, c.requires.stands)
 
 pub remove-requires : goal.remove-requires
 remove-requires t c =
     let s = sides c.in-Branch.is c.requires.ok in
-    let f = rw c.deref.ensures at (sym c.if-is-branch.ensures) in
-    rw c.deref-mut.ensures.value (omega (arith, s.falls, c.decreases), (s.left_ok, (f, (sym (s.at_left c.args.key c.if-key-split.true) ∙ c.requires.stands, c.requires.some))))
+    let f = rw c.deref.ensures at (sym c.if-is_branch.ensures) in
+    rw c.deref_mut.ensures.value (omega (arith, s.falls, c.decreases), (s.left_ok, (f, (sym (s.at_left c.args.key c.if-key-split.true) ∙ c.requires.stands, c.requires.some))))
 
-pub remove-requires-then-is-branch-2 : goal.remove-requires-then-is-branch-2
-remove-requires-then-is-branch-2 t c =
+pub remove-requires-then-is_branch-2 : goal.remove-requires-then-is_branch-2
+remove-requires-then-is_branch-2 t c =
     let s = sides c.in-Branch.is c.requires.ok in
-    let f = rw c.deref-else-key-split.ensures at (sym c.if-is-branch-2.ensures) in
-    rw c.deref-mut-then-is-branch-2.ensures.value (omega (arith, s.falls, c.decreases), (s.right_ok, (f, (sym (s.at_right c.args.key c.if-key-split.false) ∙ c.requires.stands, c.requires.some))))
+    let f = rw c.deref-else-key-split.ensures at (sym c.if-is_branch-2.ensures) in
+    rw c.deref_mut-then-is_branch-2.ensures.value (omega (arith, s.falls, c.decreases), (s.right_ok, (f, (sym (s.at_right c.args.key c.if-key-split.false) ∙ c.requires.stands, c.requires.some))))
 
 pub collapse-requires : goal.collapse-requires
 collapse-requires t c =
     let s = sides c.in-Branch.is c.requires.ok in
-    let f = rw c.deref.ensures at (sym c.if-is-branch.ensures) in
+    let f = rw c.deref.ensures at (sym c.if-is_branch.ensures) in
     record {
       ok = subst (Ordered c.args.bits) c.in-Branch.is c.requires.ok;
       lone = (
@@ -37,10 +37,10 @@ collapse-requires t c =
       );
     }
 
-pub collapse-requires-else-is-branch-2 : goal.collapse-requires-else-is-branch-2
-collapse-requires-else-is-branch-2 t c =
+pub collapse-requires-else-is_branch-2 : goal.collapse-requires-else-is_branch-2
+collapse-requires-else-is_branch-2 t c =
     let s = sides c.in-Branch.is c.requires.ok in
-    let f = rw c.deref-else-key-split.ensures at (sym c.if-is-branch-2.ensures) in
+    let f = rw c.deref-else-key-split.ensures at (sym c.if-is_branch-2.ensures) in
     record {
       ok = subst (Ordered c.args.bits) c.in-Branch.is c.requires.ok;
       lone = (
@@ -49,14 +49,14 @@ collapse-requires-else-is-branch-2 t c =
       );
     }
 
-pub returns-then-is-branch : goal.returns-then-is-branch
-returns-then-is-branch t c =
+pub returns-then-is_branch : goal.returns-then-is_branch
+returns-then-is_branch t c =
     let s = sides c.in-Branch.is c.requires.ok in
-    let e = rw c.deref-mut.ensures.value at c.remove.ensures in
+    let e = rw c.deref_mut.ensures.value at c.remove.ensures in
     removed_left s c.args.key c.args.by c.remove.new.node c.if-key-split.true e c.in-Branch.left c.in-Branch.right
 
-pub returns-then-is-branch-2 : goal.returns-then-is-branch-2
-returns-then-is-branch-2 t c =
+pub returns-then-is_branch-2 : goal.returns-then-is_branch-2
+returns-then-is_branch-2 t c =
     let s = sides c.in-Branch.is c.requires.ok in
-    let e = rw c.deref-mut-then-is-branch-2.ensures.value at c.remove-then-is-branch-2.ensures in
-    removed_right s c.args.key c.args.by c.remove-then-is-branch-2.new.node c.if-key-split.false e c.in-Branch.left c.in-Branch.right
+    let e = rw c.deref_mut-then-is_branch-2.ensures.value at c.remove-then-is_branch-2.ensures in
+    removed_right s c.args.key c.args.by c.remove-then-is_branch-2.new.node c.if-key-split.false e c.in-Branch.left c.in-Branch.right

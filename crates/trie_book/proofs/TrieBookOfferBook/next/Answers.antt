@@ -6,13 +6,13 @@ use Rattle.trie_book.proofs.TrieBookOfferBook.next.Goals as goal
 pub returns-in-default : goal.returns-in-default
 returns-in-default c = let t = c.args.self.now.trie in next_none t.root t.ok c.args.key c.in-default.ensures
 
-pub key-of-requires : goal.key-of-requires
-key-of-requires c = let t = c.args.self.now.trie in held_small t.root t.ok c.in-Some-next.x c.in-Some-next.ensures.1
+pub key_of-requires : goal.key_of-requires
+key_of-requires c = let t = c.args.self.now.trie in held_small t.root t.ok c.in-Some-next.x c.in-Some-next.ensures.1
 
 pub returns-in-Some-next : goal.returns-in-Some-next
 returns-in-Some-next c =
     let t = c.args.self.now.trie in
-    ap words c.key-of.ensures
+    ap words c.key_of.ensures
     ∙ next_is t.capacity t.root t.ok c.args.self.now.sound c.args.key c.in-Some.c c.in-Some.ensures (Some c.in-Some-next.x) c.in-Some-next.ensures
 
 pub returns-in-None : goal.returns-in-None

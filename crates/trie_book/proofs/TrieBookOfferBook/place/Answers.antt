@@ -16,24 +16,24 @@ returns-then-count-capacity c =
     let t = c.args.self.now.trie in
     record { answer = ap Err c.refusal-then-count-capacity.ensures ∙ place_full (book_of t.capacity t.root) c.args.key c.args.units (omega (arith, c.amount.ensures)) (omega arith); after = refl }
 
-pub returns-then-not-in-range : goal.returns-then-not-in-range
-returns-then-not-in-range c =
+pub returns-then-not-in_range : goal.returns-then-not-in_range
+returns-then-not-in_range c =
     let t = c.args.self.now.trie in
-    record { answer = ap Err c.refusal-then-not-in-range.ensures ∙ place_out (book_of t.capacity t.root) c.args.key c.args.units (omega (arith, c.amount.ensures)) (omega arith) (sym c.in_range.ensures ∙ c.if-not-in-range.true); after = refl }
+    record { answer = ap Err c.refusal-then-not-in_range.ensures ∙ place_out (book_of t.capacity t.root) c.args.key c.args.units (omega (arith, c.amount.ensures)) (omega arith) (sym c.in_range.ensures ∙ c.if-not-in_range.true); after = refl }
 
 pub code-c-requires : goal.code-c-requires
 code-c-requires c =
-    let b = key_bits c.args.key (and_parts (fit_key c.args.key) (is_amount c.args.units) (sym c.in_range.ensures ∙ c.if-not-in-range.false)).0 in
+    let b = key_bits c.args.key (and_parts (fit_key c.args.key) (is_amount c.args.units) (sym c.in_range.ensures ∙ c.if-not-in_range.false)).0 in
     (b.sells, b.buys)
 
-pub invariant-of-self : goal.invariant-of-self
-invariant-of-self c =
+pub invariant_of-self : goal.invariant_of-self
+invariant_of-self c =
     let s = c.args.self.now in
     let t = s.trie in
     let u = c.place.new.self in
     let e = c.place.ensures in
     let o = places t.capacity u.capacity t.root u.root c.args.key c.args.units c.code-c.result c.place.result t.ok u.ok s.sound (omega (arith, u.few, u.counted, e.capacity))
-    c.code-c.ensures.value e.capacity e.holds e.done e.count (sym c.in_range.ensures ∙ c.if-not-in-range.false) (omega (arith, c.amount.ensures)) (omega (arith, count_flat t.root)) in
+    c.code-c.ensures.value e.capacity e.holds e.done e.count (sym c.in_range.ensures ∙ c.if-not-in_range.false) (omega (arith, c.amount.ensures)) (omega (arith, count_flat t.root)) in
     (o.1, tt)
 
 pub returns : goal.returns
@@ -42,7 +42,7 @@ returns c =
     let t = s.trie in
     let u = c.place.new.self in
     let e = c.place.ensures in
-    let fit = sym c.in_range.ensures ∙ c.if-not-in-range.false in
+    let fit = sym c.in_range.ensures ∙ c.if-not-in_range.false in
     let o = places t.capacity u.capacity t.root u.root c.args.key c.args.units c.code-c.result c.place.result t.ok u.ok s.sound (omega (arith, u.few, u.counted, e.capacity))
     c.code-c.ensures.value e.capacity e.holds e.done e.count fit (omega (arith, c.amount.ensures)) (omega (arith, count_flat t.root)) in
     record { answer = place_made (book_of t.capacity t.root) c.args.key c.args.units (omega (arith, c.amount.ensures)) (omega arith) fit; after = o.0 }

@@ -10,8 +10,8 @@ code-c-requires c =
     let b = stands_bits t.root t.ok c.args.key (omega (arith, c.amount-old.ensures)) in
     (b.sells, b.buys)
 
-pub invariant-of-self : goal.invariant-of-self
-invariant-of-self c =
+pub invariant_of-self : goal.invariant_of-self
+invariant_of-self c =
     let s = c.args.self.now in
     let t = s.trie in
     let u = c.reduce.new.self in

@@ -18,10 +18,10 @@ returns g c = λ sound clean.
     let st = (g.S.AccountStore.ledger c.clear.new.store).store in
     let bk = (g.B.OfferBook.orders c.clear.new.book).book in
     let rs = c.clear.new.remainders in
-    let d = c.state-digest-digest.result in
+    let d = c.state_digest-digest.result in
     let left : n.height + 1 < 4294967296 = height_left s b clean c.args.block.now.ranges in
-    let height : n.height + 1 ≡ c.saturating-add-height.result = omega (arith, left, c.saturating-add-height.ensures) in
-    let count : n.committed + 1 ≡ c.saturating-add.result = omega (arith, left, n.level, c.saturating-add.ensures) in
+    let height : n.height + 1 ≡ c.saturating_add-height.result = omega (arith, left, c.saturating_add-height.ensures) in
+    let count : n.committed + 1 ≡ c.saturating_add.result = omega (arith, left, n.level, c.saturating_add.ensures) in
     let cleared = c.in-ok-clear.ensures s refl refl refl sound clean in
-    let digest = c.state-digest-digest.ensures (after s st bk rs d) refl refl height refl in
+    let digest = c.state_digest-digest.ensures (after s st bk rs d) refl refl height refl in
     (refl, applied s b st bk rs d _ _ cleared (g.S.AccountStore.ledger c.clear.new.store).sound (g.B.OfferBook.orders c.clear.new.book).sound height count digest)

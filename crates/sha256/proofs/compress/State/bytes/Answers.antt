@@ -32,14 +32,14 @@ loop-i-preserved c =
     let i = c.loop-i.i in
     let words = words_in c.args.self in
     let bytes = c.loop-i.bytes in
-    let ys = c.copy-from-slice.new.self in
+    let ys = c.copy_from_slice.new.self in
     let w = (4 * i + 4) - 4 * i in
     let low : i < 8 = omega arith in
     let long : length bytes ≡ 32 = c.loop-i.invariant.0 in
     let four : w ≡ 4 = omega arith in
     let room : 4 * i + 4 ≤ 32 = omega arith in
-    let e : c.to-be-bytes.result ≡ bytes_of 4 (get_or words i 0) = search rules in
-    let put : ys ≡ bytes_of 4 (get_or words i 0) = c.copy-from-slice.ensures.after ∙ e in
+    let e : c.to_be_bytes.result ≡ bytes_of 4 (get_or words i 0) = search rules in
+    let put : ys ≡ bytes_of 4 (get_or words i 0) = c.copy_from_slice.ensures.after ∙ e in
     (length_more bytes ys words i w long room four low put, take_bytes bytes ys words i w long room four low put c.loop-i.invariant.1)
 
 pub returns : goal.returns

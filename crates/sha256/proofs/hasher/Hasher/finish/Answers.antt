@@ -10,7 +10,7 @@ returns c =
           let s = c.args.self in
           let n = (119 - c.used.result) % 64 in
           let z : n ≡ zeros (length m) = omega (arith, c.used.ensures, k.size) in
-          let last = c.to-be-bytes.ensures ∙ length_bytes s.count m k.size in
+          let last = c.to_be_bytes.ensures ∙ length_bytes s.count m k.size in
           c.bytes.ensures
           ∙ finished _ _ _ m _ (c.update-2.ensures (m ++ take (n + 1) (0x80 ∷ replicate 63 0)) (c.update.ensures m k)) (padded m n _ z last);
       padding = λ n. (omega arith, omega arith);

@@ -22,7 +22,7 @@ returns-else-end-eq64 c =
     let s = c.args.self.now in
     let part = c.args.part.now in
     let used = c.used-used.result in
-    let ys = c.copy-from-slice.new.self in
+    let ys = c.copy_from_slice.new.self in
     let len : length s.buffer ≡ 64 = omega arith in
     record {
       count = refl;
@@ -31,7 +31,7 @@ returns-else-end-eq64 c =
           let l : used ≤ length s.buffer = omega arith in
           let small : length m % 64 + length part < 64 = omega (arith, c.requires, c.if-end-eq64.false) in
           begun s.state s.buffer s.count m part k _ small
-          (copied m s.buffer part ys used ((used + length part) - used) u c.copy-from-slice.ensures.after l);
+          (copied m s.buffer part ys used ((used + length part) - used) u c.copy_from_slice.ensures.after l);
     }
 
 pub returns-then-end-eq64 : goal.returns-then-end-eq64
@@ -39,7 +39,7 @@ returns-then-end-eq64 c =
     let s = c.args.self.now in
     let part = c.args.part.now in
     let used = c.used-used.result in
-    let ys = c.copy-from-slice.new.self in
+    let ys = c.copy_from_slice.new.self in
     let w = (used + length part) - used in
     let b = put_mid used w s.buffer ys in
     let len : length s.buffer ≡ 64 = omega arith in
@@ -49,7 +49,7 @@ returns-then-end-eq64 c =
           let u : used ≡ length m % 64 = omega (arith, k.size, c.used-used.ensures) in
           let l : used ≤ length s.buffer = omega arith in
           let full : length m % 64 + length part ≡ 64 = omega (arith, c.if-end-eq64.true) in
-          let y = c.copy-from-slice.ensures.after in
+          let y = c.copy_from_slice.ensures.after in
           let sum : used + w ≡ 64 = omega arith in
           let same : length ys ≡ w = omega (arith, ap length y) in
           let fits : length b ≤ length m % 64 + length part = omega (arith, copied_length s.buffer ys used w len sum same) in

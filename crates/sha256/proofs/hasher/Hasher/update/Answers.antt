@@ -10,9 +10,9 @@ pieces m head rest blocks tail all e f =
 
 pub returns : goal.returns
 returns c m k =
-    let head = c.split-at.result.0.now in
-    let blocks = c.split-at-2.result.0.now in
-    let e = c.split-at.ensures.by_index.0 in
-    let f = c.split-at-2.ensures.by_index.0 in
+    let head = c.split_at.result.0.now in
+    let blocks = c.split_at-2.result.0.now in
+    let e = c.split_at.ensures.by_index.0 in
+    let f = c.split_at-2.ensures.by_index.0 in
     subst (Holds c.keep-2.new.self) (pieces m head _ blocks _ _ e f)
     (c.keep-2.ensures.holds ((m ++ head) ++ blocks) (c.blocks-2.ensures.holds (m ++ head) (c.keep.ensures.holds m k)))
