@@ -4,14 +4,14 @@ use Rattle.terms.specs.Ranges.{every, is_balance, are_balances}
 use Rattle.accounts.proofs.Grants.{Filled, filled_more, granted, settable, never}
 use Rattle.accounts.proofs.open_with.Goals as goal
 
-pub returns-in-err-set_balance : goal.returns-in-err-set_balance
-returns-in-err-set_balance g c =
+pub returns-in_err-set_balance : goal.returns-in_err-set_balance
+returns-in_err-set_balance g c =
     absurd (never
-    (settable _ _ _ c.args.number c.args.balances c.loop-x.x (omega arith) (sym c.are_balances.ensures ∙ c.if-not-are_balances.false) (omega arith) c.in-ok-open.ensures.after c.loop-x.invariant
-    ∙ sym c.set_balance.ensures.answer ∙ c.in-err-set_balance.was))
+    (settable _ _ _ c.args.number c.args.balances c.loop-x.x (omega arith) (sym c.are_balances.ensures ∙ c.if-not-are_balances.false) (omega arith) c.in_ok-open.ensures.after c.loop-x.invariant
+    ∙ sym c.set_balance.ensures.answer ∙ c.in_err-set_balance.was))
 
 pub loop-x-preserved : goal.loop-x-preserved
-loop-x-preserved g c = filled_more _ _ _ c.args.number c.args.balances c.loop-x.x c.loop-x.invariant c.in-ok-set_balance.ensures.after
+loop-x-preserved g c = filled_more _ _ _ c.args.number c.args.balances c.loop-x.x c.loop-x.invariant c.in_ok-set_balance.ensures.after
 
 pub returns : goal.returns
 returns g c =
@@ -20,7 +20,7 @@ returns g c =
     let s = (g.S.AccountStore.ledger c.args.store.now).store in
     let last : c.loop-x.x ≡ 8 = omega arith in
     record {
-      answer = c.in-ok-open.ensures.answer ∙ sym (cond-true (are_balances c.args.balances) _ _ (and_from _ _ (eq-eqb _ 8 eight) fit));
-      after = granted _ _ _ c.args.number c.args.balances eight c.in-ok-open.ensures.answer c.in-ok-open.ensures.after
+      answer = c.in_ok-open.ensures.answer ∙ sym (cond-true (are_balances c.args.balances) _ _ (and_from _ _ (eq-eqb _ 8 eight) fit));
+      after = granted _ _ _ c.args.number c.args.balances eight c.in_ok-open.ensures.answer c.in_ok-open.ensures.after
           (subst (λ x. Filled (g.S.AccountStore.ledger c.open.new.self).store c.args.number c.args.balances x (g.S.AccountStore.ledger c.loop-x.store).store) last c.loop-x.invariant);
     }

@@ -19,12 +19,12 @@ loop-t-init g c = none_left _
 pub loop-t-preserved : goal.loop-t-preserved
 loop-t-preserved g c =
     pass_more Left left_more CanLeave leave_next cancelled c.args.transactions.now c.loop-t.t-index none c.loop-t-test.true _ _ _
-    c.loop-t.invariant c.in-ok-cancel.ensures
+    c.loop-t.invariant c.in_ok-cancel.ensures
 
-pub returns-in-err-cancel : goal.returns-in-err-cancel
-returns-in-err-cancel g c =
-    MatchResult-from_err c.from-residual.result _ _ c.from-residual.ensures.0
-    (λ _ can. c.in-err-cancel.ensures
+pub returns-in_err-cancel : goal.returns-in_err-cancel
+returns-in_err-cancel g c =
+    MatchResult-from_err c.from_residual.result _ _ c.from_residual.ensures.0
+    (λ _ can. c.in_err-cancel.ensures
     (pass_next Left left_more CanLeave leave_next cancelled c.args.transactions.now c.loop-t.t-index none c.loop-t-test.true _ _ can c.loop-t.invariant))
 
 pub returns : goal.returns

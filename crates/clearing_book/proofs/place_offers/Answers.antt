@@ -19,12 +19,12 @@ loop-t-init g c = none_entered _
 pub loop-t-preserved : goal.loop-t-preserved
 loop-t-preserved g c =
     pass_more Entered entered_more CanEnter enter_next placed c.args.transactions.now c.loop-t.t-index none c.loop-t-test.true _ _ _
-    c.loop-t.invariant c.in-ok-place.ensures
+    c.loop-t.invariant c.in_ok-place.ensures
 
-pub returns-in-err-place : goal.returns-in-err-place
-returns-in-err-place g c =
-    MatchResult-from_err c.from-residual.result _ _ c.from-residual.ensures.0
-    (λ _ can. c.in-err-place.ensures
+pub returns-in_err-place : goal.returns-in_err-place
+returns-in_err-place g c =
+    MatchResult-from_err c.from_residual.result _ _ c.from_residual.ensures.0
+    (λ _ can. c.in_err-place.ensures
     (pass_next Entered entered_more CanEnter enter_next placed c.args.transactions.now c.loop-t.t-index none c.loop-t-test.true _ _ can c.loop-t.invariant))
 
 pub returns : goal.returns

@@ -17,12 +17,12 @@ loop-net-init g c = none_applied _
 pub loop-net-preserved : goal.loop-net-preserved
 loop-net-preserved g c =
     each_more Applied applied_more CanApply apply_next c.args.nets.now c.loop-net.net-index none c.loop-net-test.true _ _ _
-    c.loop-net.invariant c.in-ok-apply.ensures
+    c.loop-net.invariant c.in_ok-apply.ensures
 
-pub returns-in-err-apply : goal.returns-in-err-apply
-returns-in-err-apply g c =
-    MatchResult-from_err c.from-residual.result _ _ c.from-residual.ensures.0
-    (λ _ can. c.in-err-apply.ensures
+pub returns-in_err-apply : goal.returns-in_err-apply
+returns-in_err-apply g c =
+    MatchResult-from_err c.from_residual.result _ _ c.from_residual.ensures.0
+    (λ _ can. c.in_err-apply.ensures
     (each_next Applied applied_more CanApply apply_next c.args.nets.now c.loop-net.net-index none c.loop-net-test.true _ _ can c.loop-net.invariant))
 
 pub returns : goal.returns

@@ -19,12 +19,12 @@ loop-t-init g c = none_opened _
 pub loop-t-preserved : goal.loop-t-preserved
 loop-t-preserved g c =
     pass_more AllOpened opened_more CanOpen open_next created c.args.transactions.now c.loop-t.t-index none c.loop-t-test.true _ _ _
-    c.loop-t.invariant c.in-ok-open.ensures
+    c.loop-t.invariant c.in_ok-open.ensures
 
-pub returns-in-err-open : goal.returns-in-err-open
-returns-in-err-open g c =
-    MatchResult-from_err c.from-residual.result _ _ c.from-residual.ensures.0
-    (λ _ can. c.in-err-open.ensures
+pub returns-in_err-open : goal.returns-in_err-open
+returns-in_err-open g c =
+    MatchResult-from_err c.from_residual.result _ _ c.from_residual.ensures.0
+    (λ _ can. c.in_err-open.ensures
     (pass_next AllOpened opened_more CanOpen open_next created c.args.transactions.now c.loop-t.t-index none c.loop-t-test.true _ _ can c.loop-t.invariant))
 
 pub returns : goal.returns

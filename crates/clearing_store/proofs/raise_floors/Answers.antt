@@ -17,12 +17,12 @@ loop-t-init g c = none_raised _
 pub loop-t-preserved : goal.loop-t-preserved
 loop-t-preserved g c =
     each_more Raised raised_more CanRaise raise_next c.args.transactions.now c.loop-t.t-index none c.loop-t-test.true _ _ _
-    c.loop-t.invariant c.in-ok-raise.ensures
+    c.loop-t.invariant c.in_ok-raise.ensures
 
-pub returns-in-err-raise : goal.returns-in-err-raise
-returns-in-err-raise g c =
-    MatchResult-from_err c.from-residual.result _ _ c.from-residual.ensures.0
-    (λ _ can. c.in-err-raise.ensures
+pub returns-in_err-raise : goal.returns-in_err-raise
+returns-in_err-raise g c =
+    MatchResult-from_err c.from_residual.result _ _ c.from_residual.ensures.0
+    (λ _ can. c.in_err-raise.ensures
     (each_next Raised raised_more CanRaise raise_next c.args.transactions.now c.loop-t.t-index none c.loop-t-test.true _ _ can c.loop-t.invariant))
 
 pub returns : goal.returns

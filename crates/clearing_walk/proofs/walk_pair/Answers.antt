@@ -14,7 +14,7 @@ loop-rest-init g c = (
 
 pub overflow_add-out : goal.overflow_add-out
 overflow_add-out g c =
-    let h = subst (λ o. Bounded c.loop-rest.rest c.args.rates (Ok o)) c.in-Some.is c.in-ok-turn.ensures.bounded in
+    let h = subst (λ o. Bounded c.loop-rest.rest c.args.rates (Ok o)) c.in-Some.is c.in_ok-turn.ensures.bounded in
     let k = paid_more c.args.volume.amount c.loop-rest.rest c.loop-rest.out c.in-Some.fill.sold c.in-Some.fill.paid c.args.rates.sold c.loop-rest.invariant.0 c.loop-rest.invariant.1 h.1 h.2 in
     let t = paid_all c.args.volume.amount (c.loop-rest.rest - c.in-Some.fill.sold) (c.loop-rest.out + c.in-Some.fill.paid) c.args.rates.sold k in
     let l : c.args.volume.amount * c.args.rates.sold ≤ largest * c.args.rates.sold = mul-le-mul_right c.args.rates.sold (omega (arith, c.requires)) in
@@ -22,29 +22,29 @@ overflow_add-out g c =
 
 pub loop-rest-preserved : goal.loop-rest-preserved
 loop-rest-preserved g c =
-    let h = subst (λ o. Bounded c.loop-rest.rest c.args.rates (Ok o)) c.in-Some.is c.in-ok-turn.ensures.bounded in (
+    let h = subst (λ o. Bounded c.loop-rest.rest c.args.rates (Ok o)) c.in-Some.is c.in_ok-turn.ensures.bounded in (
       omega (arith, c.loop-rest.invariant.0),
       paid_more c.args.volume.amount c.loop-rest.rest c.loop-rest.out c.in-Some.fill.sold c.in-Some.fill.paid c.args.rates.sold c.loop-rest.invariant.0 c.loop-rest.invariant.1 h.1 h.2,
-      c.in-ok-turn.ensures.kept ∙ c.loop-rest.invariant.2,
+      c.in_ok-turn.ensures.kept ∙ c.loop-rest.invariant.2,
       λ s b first p e w. going_on s b first c.args.volume.sold c.args.volume.bought c.args.rates c.loop-rest.at c.loop-rest.rest c.loop-rest.out _ _ _ _ p
-          (c.loop-rest.invariant.3 s b first p e w) c.in-Some.fill (rw c.in-Some.is at (c.in-ok-turn.ensures.turned s b first)),
+          (c.loop-rest.invariant.3 s b first p e w) c.in-Some.fill (rw c.in-Some.is at (c.in_ok-turn.ensures.turned s b first)),
     )
 
 pub returns-in-None : goal.returns-in-None
 returns-in-None g c =
     record {
-      kept = c.in-ok-turn.ensures.kept ∙ c.loop-rest.invariant.2;
+      kept = c.in_ok-turn.ensures.kept ∙ c.loop-rest.invariant.2;
       walked = λ s b first p e w. stop s b first c.args.volume.sold c.args.volume.bought c.args.rates c.loop-rest.at c.loop-rest.rest c.loop-rest.out _ _ _ _ p
-          (c.loop-rest.invariant.3 s b first p e w) (rw c.in-None.is at (c.in-ok-turn.ensures.turned s b first));
+          (c.loop-rest.invariant.3 s b first p e w) (rw c.in-None.is at (c.in_ok-turn.ensures.turned s b first));
     }
 
-pub returns-in-err-turn : goal.returns-in-err-turn
-returns-in-err-turn g c =
+pub returns-in_err-turn : goal.returns-in_err-turn
+returns-in_err-turn g c =
     record {
-      kept = no_room _ _ c.from-residual.result c.from-residual.ensures.0;
+      kept = no_room _ _ c.from_residual.result c.from_residual.ensures.0;
       walked = λ s b first p e w.
           absurd (never s b first c.args.volume.sold c.args.volume.bought c.args.rates c.loop-rest.at c.loop-rest.rest c.loop-rest.out _ _ p
-          (c.loop-rest.invariant.3 s b first p e w) (c.in-err-turn.ensures.turned s b first));
+          (c.loop-rest.invariant.3 s b first p e w) (c.in_err-turn.ensures.turned s b first));
     }
 
 pub returns : goal.returns

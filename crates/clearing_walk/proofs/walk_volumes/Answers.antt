@@ -19,13 +19,13 @@ walk_pair-requires g c =
     let priced = in_price c.args.prices.now c.requires.0 eight in
     (n, ((priced _ x).1, priced _ y))
 
-pub returns-in-err-out : goal.returns-in-err-out
-returns-in-err-out g c =
+pub returns-in_err-out : goal.returns-in_err-out
+returns-in_err-out g c =
     let (x, y, _) = in_pair c.args.volumes.now c.requires.1 c.loop-v.v-index c.loop-v-test.true in
     record {
-      kept = no_room _ _ c.from-residual.result c.from-residual.ensures.0;
+      kept = no_room _ _ c.from_residual.result c.from_residual.ensures.0;
       filled = λ s b h ready same.
-          absurd (c.in-err-out.ensures.walked s b _
+          absurd (c.in_err-out.ensures.walked s b _
           (priced s b _ ready _ c.args.volumes.now h c.loop-v.v-index c.loop-v-test.true y)
           (total_is s b _ ready _ c.args.volumes.now h c.loop-v.v-index c.loop-v-test.true)
           (enter s b _ ready _ c.args.volumes.now h c.loop-v.v-index c.loop-v-test.true _ _ c.loop-v.outs (c.loop-v.invariant.2 s b h ready same)));
@@ -41,10 +41,10 @@ pub loop-v-preserved : goal.loop-v-preserved
 loop-v-preserved g c =
     let (x, y, _) = in_pair c.args.volumes.now c.requires.1 c.loop-v.v-index c.loop-v-test.true in (
       simp length-set c.loop-v.invariant.0,
-      c.in-ok-out.ensures.kept ∙ c.loop-v.invariant.1,
+      c.in_ok-out.ensures.kept ∙ c.loop-v.invariant.1,
       λ s b h ready same. rw c.saturating_add.ensures
-          (leave s b _ ready _ c.args.volumes.now h c.loop-v.v-index c.loop-v-test.true _ _ c.loop-v.outs (c.loop-v.invariant.2 s b h ready same) _ _ c.in-ok-out.out y c.loop-v.invariant.0
-          (c.in-ok-out.ensures.walked s b _
+          (leave s b _ ready _ c.args.volumes.now h c.loop-v.v-index c.loop-v-test.true _ _ c.loop-v.outs (c.loop-v.invariant.2 s b h ready same) _ _ c.in_ok-out.out y c.loop-v.invariant.0
+          (c.in_ok-out.ensures.walked s b _
           (priced s b _ ready _ c.args.volumes.now h c.loop-v.v-index c.loop-v-test.true y)
           (total_is s b _ ready _ c.args.volumes.now h c.loop-v.v-index c.loop-v-test.true)
           (enter s b _ ready _ c.args.volumes.now h c.loop-v.v-index c.loop-v-test.true _ _ c.loop-v.outs (c.loop-v.invariant.2 s b h ready same)))),

@@ -14,15 +14,15 @@ loop-grant-preserved g c empty clean =
     let gs = c.grants-grants.result.now in
     let fit = subst (λ l. fit_grants l ≡ true) (sym c.grants-grants.ensures) c.args.founding.now.ranges in
     granted_more (g.S.AccountStore.ledger c.args.store.now).store gs fit empty clean _ c.loop-grant.grant-index _ c.loop-grant-test.true (c.loop-grant.invariant empty clean)
-    (g.S.AccountStore.ledger c.open_with.new.store).store c.in-ok-open_with.ensures.after
+    (g.S.AccountStore.ledger c.open_with.new.store).store c.in_ok-open_with.ensures.after
 
-pub returns-in-err-open_with : goal.returns-in-err-open_with
-returns-in-err-open_with g c empty clean =
+pub returns-in_err-open_with : goal.returns-in_err-open_with
+returns-in_err-open_with g c empty clean =
     let s = (g.S.AccountStore.ledger c.args.store.now).store in
     let gs = c.grants-grants.result.now in
     let fit = subst (λ l. fit_grants l ≡ true) (sym c.grants-grants.ensures) c.args.founding.now.ranges in
     let fine = subst (λ l. FoundingVerdict s l None) (sym c.grants-grants.ensures) clean in
-    never_refused s gs fit empty fine _ c.loop-grant.grant-index _ c.loop-grant-test.true (c.loop-grant.invariant empty fine) _ c.in-err-open_with.ensures.answer _ _ _
+    never_refused s gs fit empty fine _ c.loop-grant.grant-index _ c.loop-grant-test.true (c.loop-grant.invariant empty fine) _ c.in_err-open_with.ensures.answer _ _ _
 
 pub returns : goal.returns
 returns g c empty clean =

@@ -18,14 +18,14 @@ shown bs ls counts st bk m short s e b o =
     let fits : ltb 65536 (length bs) ≡ false = le-ltb 65536 (length bs) short in
     subst (λ x. MatchBool x (ls ≡ Refused (fault 1 0 0) ∷ []) ((c : Line) × Outcome accounts offers bs ls c)) (sym fits) (counts, subst₂ (λ y z. Outcome y z bs ls counts) same b o)
 
-pub returns-in-err-book : goal.returns-in-err-book
-returns-in-err-book c = let p = err_from_is_err_and c.from-residual-in-err-book.result c.from-residual-in-err-book.ensures.1 in rw p.1 tt
+pub returns-in_err-book : goal.returns-in_err-book
+returns-in_err-book c = let p = err_from_is_err_and c.from_residual-in_err-book.result c.from_residual-in_err-book.ensures.1 in rw p.1 tt
 
-pub returns-in-err-listing : goal.returns-in-err-listing
-returns-in-err-listing c = let p = err_from_is_err_and c.from-residual-in-err-listing.result c.from-residual-in-err-listing.ensures.1 in rw p.1 tt
+pub returns-in_err-listing : goal.returns-in_err-listing
+returns-in_err-listing c = let p = err_from_is_err_and c.from_residual-in_err-listing.result c.from_residual-in_err-listing.ensures.1 in rw p.1 tt
 
 pub returns : goal.returns
 returns c =
     let short : length c.args.input.now ≤ 65536 = omega arith in
-    let slots : length c.as_mut_slice.result.now ≡ 256 = omega (arith, c.as_mut_slice.ensures.len, c.in-ok-slots.ensures.made) in
-    shown _ _ _ _ _ _ short c.new-store.ensures slots c.in-ok-book.ensures c.in-ok-listing.ensures
+    let slots : length c.as_mut_slice.result.now ≡ 256 = omega (arith, c.as_mut_slice.ensures.len, c.in_ok-slots.ensures.made) in
+    shown _ _ _ _ _ _ short c.new-store.ensures slots c.in_ok-book.ensures c.in_ok-listing.ensures

@@ -45,6 +45,6 @@ pub returns : goal.returns
 returns g c = λ m k.
     let st = (g.S.AccountStore.ledger c.args.store.now).store in
     let ok = store_parts st (g.S.AccountStore.ledger c.args.store.now).sound in
-    let none = rest_end name st.accounts (c.loop-number.at ∷ []) (All-weaker _ _ (λ a _. some a.number) st.accounts ok.fit) (sym c.in-default.ensures) in
+    let none = rest_end name st.accounts (c.loop-number.at ∷ []) (All-weaker _ _ (λ a _. some a.number) st.accounts ok.fit) (sym c.in_default.ensures) in
     let before = c.loop-number.invariant m k in
     subst (Holds c.loop-number.hasher) (ended name account_bytes st.accounts (c.loop-number.at ∷ []) before.0 _ none before.2) before.1

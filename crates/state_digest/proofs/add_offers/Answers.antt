@@ -63,6 +63,6 @@ loop-key-preserved g c = λ m k.
 pub returns : goal.returns
 returns g c = λ m k.
     let bk = (g.B.OfferBook.orders c.args.book.now).book in
-    let none = rest_end place bk.offers (words c.loop-key.at) (All-weaker _ _ (λ o _. some _ 5 refl (omega arith)) bk.offers (book_parts bk (g.B.OfferBook.orders c.args.book.now).sound).fit) (sym c.in-default.ensures) in
+    let none = rest_end place bk.offers (words c.loop-key.at) (All-weaker _ _ (λ o _. some _ 5 refl (omega arith)) bk.offers (book_parts bk (g.B.OfferBook.orders c.args.book.now).sound).fit) (sym c.in_default.ensures) in
     let before = c.loop-key.invariant m k in
     subst (Holds c.loop-key.hasher) (ended place offer_bytes bk.offers (words c.loop-key.at) before.0 _ none before.2) before.1

@@ -4,26 +4,26 @@ use Rattle.twins.specs.Paired.{Paired}
 use Rattle.twins.proofs.Begin.{begin_alike}
 use Rattle.twins.proofs.run_twins.Goals as goal
 
-pub returns-in-err-other_slots : goal.returns-in-err-other_slots
-returns-in-err-other_slots c = IfOk-from_err c.from-residual-in-err-other_slots.result _ c.from-residual-in-err-other_slots.ensures.0
+pub returns-in_err-other_slots : goal.returns-in_err-other_slots
+returns-in_err-other_slots c = IfOk-from_err c.from_residual-in_err-other_slots.result _ c.from_residual-in_err-other_slots.ensures.0
 
-pub returns-in-err-index : goal.returns-in-err-index
-returns-in-err-index c = IfOk-from_err c.from-residual-in-err-index.result _ c.from-residual-in-err-index.ensures.0
+pub returns-in_err-index : goal.returns-in_err-index
+returns-in_err-index c = IfOk-from_err c.from_residual-in_err-index.result _ c.from_residual-in_err-index.ensures.0
 
-pub returns-in-err-offers : goal.returns-in-err-offers
-returns-in-err-offers c = IfOk-from_err c.from-residual-in-err-offers.result _ c.from-residual-in-err-offers.ensures.0
+pub returns-in_err-offers : goal.returns-in_err-offers
+returns-in_err-offers c = IfOk-from_err c.from_residual-in_err-offers.result _ c.from_residual-in_err-offers.ensures.0
 
-pub returns-in-err-trie : goal.returns-in-err-trie
-returns-in-err-trie c = IfOk-from_err c.from-residual-in-err-trie.result _ c.from-residual-in-err-trie.ensures.0
+pub returns-in_err-trie : goal.returns-in_err-trie
+returns-in_err-trie c = IfOk-from_err c.from_residual-in_err-trie.result _ c.from_residual-in_err-trie.ensures.0
 
 pub returns : goal.returns
 returns c = λ p.
-    let n : length c.as_mut_slice.result.now ≡ 256 = c.as_mut_slice.ensures.len ∙ c.in-ok-slots.ensures.len in
-    let m : length c.as_mut_slice-2.result.now ≡ 256 = c.as_mut_slice-2.ensures.len ∙ c.in-ok-other_slots.ensures.len in
-    let i : length c.as_mut_slice-3.result.now ≡ 768 = c.as_mut_slice-3.ensures.len ∙ c.in-ok-index.ensures.len in
-    let o : length c.as_mut_slice-4.result.now ≡ 1024 = c.as_mut_slice-4.ensures.len ∙ c.in-ok-offers.ensures.len in
+    let n : length c.as_mut_slice.result.now ≡ 256 = c.as_mut_slice.ensures.len ∙ c.in_ok-slots.ensures.len in
+    let m : length c.as_mut_slice-2.result.now ≡ 256 = c.as_mut_slice-2.ensures.len ∙ c.in_ok-other_slots.ensures.len in
+    let i : length c.as_mut_slice-3.result.now ≡ 768 = c.as_mut_slice-3.ensures.len ∙ c.in_ok-index.ensures.len in
+    let o : length c.as_mut_slice-4.result.now ≡ 1024 = c.as_mut_slice-4.ensures.len ∙ c.in_ok-offers.ensures.len in
     let alike =
-    begin_alike _ _ _ _ 4294967295 _ _ _ _ c.new-2.ensures c.new-3.ensures c.in-ok-trie.ensures c.new-4.ensures
+    begin_alike _ _ _ _ 4294967295 _ _ _ _ c.new-2.ensures c.new-3.ensures c.in_ok-trie.ensures c.new-4.ensures
     ((λ k. min (min (m k) (i k / 3)) 65536) ∙ sym (λ k. min (n k) 65536)) (λ k. min (o k) 65536) in
     let paired =
     subst (λ es. Paired es c.as_slice-2.result.now) (sym c.as_slice.ensures.value)

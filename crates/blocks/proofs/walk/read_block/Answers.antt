@@ -21,16 +21,16 @@ read : (bs : List ℕ) (cs : List Cmd) (at : ℕ) (g : Stage) (d : Draft) → Wa
 read bs cs at g d w x n e is l k =
     finish bs cs at g d w n (subst (λ y. Took bs at (admits g) (shown y) n) is (step_took bs at (admits g) (shown x) n e)) l k
 
-pub returns-in-err-reading : goal.returns-in-err-reading
-returns-in-err-reading c =
-    let p = err_from_is_err_and c.from-residual.result c.from-residual.ensures.1 in
+pub returns-in_err-reading : goal.returns-in_err-reading
+returns-in_err-reading c =
+    let p = err_from_is_err_and c.from_residual.result c.from_residual.ensures.1 in
     let bs = c.args.bytes.now in
     let at = c.loop-at.at in
     let g = c.loop-at.stage in
     let i = c.loop-at.invariant in
-    let f = c.in-err-reading.field-0.0 in
+    let f = c.in_err-reading.field-0.0 in
     rw (p.1, p.2)
-    (inr (i.0, stops_step is_begin bs i.1 at g i.2.reached f (step_halts bs at (admits g) f c.in-err-reading.ensures)))
+    (inr (i.0, stops_step is_begin bs i.1 at g i.2.reached f (step_halts bs at (admits g) f c.in_err-reading.ensures)))
 
 pub returns-then-reading-bytes : goal.returns-then-reading-bytes
 returns-then-reading-bytes c =
@@ -38,8 +38,8 @@ returns-then-reading-bytes c =
     let at = c.loop-at.at in
     let g = c.loop-at.stage in
     let i = c.loop-at.invariant in
-    let n = c.in-ok-reading.reading.next in
-    let t = step_took bs at (admits g) (shown c.in-ok-reading.reading.command) n c.in-ok-reading.ensures in
+    let n = c.in_ok-reading.reading.next in
+    let t = step_took bs at (admits g) (shown c.in_ok-reading.reading.command) n c.in_ok-reading.ensures in
     let u = subst (λ x. Took bs at (admits g) (shown x) n) c.in-End.is t in
     inr
     (i.0, subst (Stops is_begin bs) (sym c.fault_at.ensures) (stops_trailing is_begin bs i.1 at g i.2.reached n u c.if-reading-bytes.true))
@@ -48,14 +48,14 @@ pub invariant_of-result : goal.invariant_of-result
 invariant_of-result c =
     let i = c.loop-at.invariant in
     let s = i.2.says in
-    let r = read c.args.bytes.now i.1 c.loop-at.at c.loop-at.stage c.loop-at.draft i.2 _ _ c.in-ok-reading.ensures
+    let r = read c.args.bytes.now i.1 c.loop-at.at c.loop-at.stage c.loop-at.draft i.2 _ _ c.in_ok-reading.ensures
     c.in-End.is c.if-reading-bytes.false i.0 in
     (pairs_few c.loop-at.draft i.1 c.loop-at.stage s, (s.few, (readable_fits c.args.bytes.now (spoken c.loop-at.draft) r, tt)))
 
 pub returns-in-End : goal.returns-in-End
 returns-in-End c =
     let i = c.loop-at.invariant in
-    read c.args.bytes.now i.1 c.loop-at.at c.loop-at.stage c.loop-at.draft i.2 _ _ c.in-ok-reading.ensures
+    read c.args.bytes.now i.1 c.loop-at.at c.loop-at.stage c.loop-at.draft i.2 _ _ c.in_ok-reading.ensures
     c.in-End.is c.if-reading-bytes.false i.0
 
 pub overflows-requires : goal.overflows-requires
@@ -67,9 +67,9 @@ returns-then-overflows c =
     let at = c.loop-at.at in
     let g = c.loop-at.stage in
     let i = c.loop-at.invariant in
-    let x = shown c.in-ok-reading.reading.command in
-    let n = c.in-ok-reading.reading.next in
-    let t = step_took bs at (admits g) x n c.in-ok-reading.ensures in
+    let x = shown c.in_ok-reading.reading.command in
+    let n = c.in_ok-reading.reading.next in
+    let t = step_took bs at (admits g) x n c.in_ok-reading.ensures in
     let f = full c.loop-at.draft.count x i.2.says.few (overflow c.loop-at.draft.count x c.if-overflows.ensures) in
     inr (
       i.0,
@@ -83,8 +83,8 @@ add-requires c =
     let at = c.loop-at.at in
     let g = c.loop-at.stage in
     let i = c.loop-at.invariant in
-    let x = shown c.in-ok-reading.reading.command in
-    let t = step_took bs at (admits g) x _ c.in-ok-reading.ensures in
+    let x = shown c.in_ok-reading.reading.command in
+    let t = step_took bs at (admits g) x _ c.in_ok-reading.ensures in
     room c.loop-at.draft i.1 g x i.2.says t.admitted t.ranged
     (overflow_not c.loop-at.draft.count x c.if-overflows.ensures)
 
@@ -93,8 +93,8 @@ loop-at-smaller c =
     let bs = c.args.bytes.now in
     let at = c.loop-at.at in
     let g = c.loop-at.stage in
-    let n = c.in-ok-reading.reading.next in
-    let t = step_took bs at (admits g) (shown c.in-ok-reading.reading.command) n c.in-ok-reading.ensures in
+    let n = c.in_ok-reading.reading.next in
+    let t = step_took bs at (admits g) (shown c.in_ok-reading.reading.command) n c.in_ok-reading.ensures in
     let m = whole_moves bs at t.here in
     let e = t.then in
     omega (arith, m.0, m.1, e)
@@ -106,10 +106,10 @@ loop-at-preserved c =
     let g = c.loop-at.stage in
     let d = c.loop-at.draft in
     let i = c.loop-at.invariant in
-    let x = shown c.in-ok-reading.reading.command in
-    let n = c.in-ok-reading.reading.next in
-    let t = step_took bs at (admits g) x n c.in-ok-reading.ensures in
-    let w = walked_more bs i.1 at g d i.2 x n t (shown_end _ c.in-default.not-End) (overflow_not c.loop-at.draft.count x c.if-overflows.ensures) in (
+    let x = shown c.in_ok-reading.reading.command in
+    let n = c.in_ok-reading.reading.next in
+    let t = step_took bs at (admits g) x n c.in_ok-reading.ensures in
+    let w = walked_more bs i.1 at g d i.2 x n t (shown_end _ c.in_default.not-End) (overflow_not c.loop-at.draft.count x c.if-overflows.ensures) in (
       i.0,
       i.1 ++ x ∷ [],
       subst (λ h. Walked bs (i.1 ++ x ∷ []) n h c.add.new.self) (sym c.after-stage.ensures)

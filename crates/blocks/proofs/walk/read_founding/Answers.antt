@@ -19,23 +19,23 @@ read : (bs : List ℕ) (cs : List Cmd) (at : ℕ) (gs : List Grant) (k : ℕ) �
 read bs cs at gs k w x n e is l h =
     founds bs cs at gs k w n (subst (λ y. Took bs at (admits Grants) (shown y) n) is (step_took bs at (admits Grants) (shown x) n e)) l h
 
-pub returns-in-err-reading : goal.returns-in-err-reading
-returns-in-err-reading c =
-    let p = err_from_is_err_and c.from-residual.result c.from-residual.ensures.1 in
+pub returns-in_err-reading : goal.returns-in_err-reading
+returns-in_err-reading c =
+    let p = err_from_is_err_and c.from_residual.result c.from_residual.ensures.1 in
     let bs = c.args.bytes.now in
     let at = c.loop-at.at in
     let i = c.loop-at.invariant in
-    let f = c.in-err-reading.field-0.0 in
+    let f = c.in_err-reading.field-0.0 in
     rw (p.1, p.2)
-    (inr (i.0, stops_step is_grant bs i.1 at Grants i.2.reached f (step_halts bs at (admits Grants) f c.in-err-reading.ensures)))
+    (inr (i.0, stops_step is_grant bs i.1 at Grants i.2.reached f (step_halts bs at (admits Grants) f c.in_err-reading.ensures)))
 
 pub returns-then-reading-bytes : goal.returns-then-reading-bytes
 returns-then-reading-bytes c =
     let bs = c.args.bytes.now in
     let at = c.loop-at.at in
     let i = c.loop-at.invariant in
-    let n = c.in-ok-reading.reading.next in
-    let t = step_took bs at (admits Grants) (shown c.in-ok-reading.reading.command) n c.in-ok-reading.ensures in
+    let n = c.in_ok-reading.reading.next in
+    let t = step_took bs at (admits Grants) (shown c.in_ok-reading.reading.command) n c.in_ok-reading.ensures in
     let u = subst (λ x. Took bs at (admits Grants) (shown x) n) c.in-End.is t in
     inr
     (i.0, subst (Stops is_grant bs) (sym c.fault_at.ensures) (stops_trailing is_grant bs i.1 at Grants i.2.reached n u c.if-reading-bytes.true))
@@ -43,7 +43,7 @@ returns-then-reading-bytes c =
 pub invariant_of-result : goal.invariant_of-result
 invariant_of-result c =
     let i = c.loop-at.invariant in
-    let r = read c.args.bytes.now i.1 c.loop-at.at c.loop-at.grants c.loop-at.count i.2 _ _ c.in-ok-reading.ensures
+    let r = read c.args.bytes.now i.1 c.loop-at.at c.loop-at.grants c.loop-at.count i.2 _ _ c.in_ok-reading.ensures
     c.in-End.is c.if-reading-bytes.false i.0 in
     let h = i.2.room in
     let t = c.loop-at-test.true in
@@ -53,14 +53,14 @@ invariant_of-result c =
 pub returns-in-End : goal.returns-in-End
 returns-in-End c =
     let i = c.loop-at.invariant in
-    read c.args.bytes.now i.1 c.loop-at.at c.loop-at.grants c.loop-at.count i.2 _ _ c.in-ok-reading.ensures
+    read c.args.bytes.now i.1 c.loop-at.at c.loop-at.grants c.loop-at.count i.2 _ _ c.in_ok-reading.ensures
     c.in-End.is c.if-reading-bytes.false i.0
 
 pub unreachable-requires : goal.unreachable-requires
 unreachable-requires c =
-    let x = c.in-ok-reading.reading.command in
-    let t = step_took c.args.bytes.now c.loop-at.at (admits Grants) (shown x) _ c.in-ok-reading.ensures in
-    grant_only x t.admitted c.in-default.not-End c.in-default-command.not-Found
+    let x = c.in_ok-reading.reading.command in
+    let t = step_took c.args.bytes.now c.loop-at.at (admits Grants) (shown x) _ c.in_ok-reading.ensures in
+    grant_only x t.admitted c.in_default.not-End c.in_default-command.not-Found
 
 -- the grant that a step took
 grant : (bs : List ℕ) (at : ℕ) (x : Command) (n a : ℕ) (b : Bor (List ℕ)) (r : List ℕ) → got (shown x) n ≡ stepped (admits Grants) bs at
@@ -73,16 +73,16 @@ grant bs at x n a b r e is eq =
 pub bounds-grants-count : goal.bounds-grants-count
 bounds-grants-count c =
     let i = c.loop-at.invariant in
-    let t = grant c.args.bytes.now c.loop-at.at c.in-ok-reading.reading.command c.in-ok-reading.reading.next _ _ _
-    c.in-ok-reading.ensures c.in-Found.is c.eight_balances.ensures in
+    let t = grant c.args.bytes.now c.loop-at.at c.in_ok-reading.reading.command c.in_ok-reading.reading.next _ _ _
+    c.in_ok-reading.ensures c.in-Found.is c.eight_balances.ensures in
     grant_fits c.args.bytes.now i.1 c.loop-at.at c.loop-at.grants c.loop-at.count i.2 _ _ t i.0
 
 pub loop-at-smaller : goal.loop-at-smaller
 loop-at-smaller c =
     let bs = c.args.bytes.now in
     let at = c.loop-at.at in
-    let n = c.in-ok-reading.reading.next in
-    let t = step_took bs at (admits Grants) (shown c.in-ok-reading.reading.command) n c.in-ok-reading.ensures in
+    let n = c.in_ok-reading.reading.next in
+    let t = step_took bs at (admits Grants) (shown c.in_ok-reading.reading.command) n c.in_ok-reading.ensures in
     let m = whole_moves bs at t.here in
     let e = t.then in
     omega (arith, m.0, m.1, e)
@@ -90,8 +90,8 @@ loop-at-smaller c =
 pub loop-at-preserved : goal.loop-at-preserved
 loop-at-preserved c =
     let i = c.loop-at.invariant in
-    let t = grant c.args.bytes.now c.loop-at.at c.in-ok-reading.reading.command c.in-ok-reading.reading.next _ _ _
-    c.in-ok-reading.ensures c.in-Found.is c.eight_balances.ensures in
+    let t = grant c.args.bytes.now c.loop-at.at c.in_ok-reading.reading.command c.in_ok-reading.reading.next _ _ _
+    c.in_ok-reading.ensures c.in-Found.is c.eight_balances.ensures in
     let g : Grant = record { account = c.in-Found.account; balances = c.eight_balances.result } in
     (i.0, i.1 ++ found g ∷ [], gathered_more c.args.bytes.now i.1 c.loop-at.at c.loop-at.grants c.loop-at.count i.2 g _ t i.0)
 

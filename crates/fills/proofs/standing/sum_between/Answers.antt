@@ -37,5 +37,5 @@ loop-key-preserved g c =
 pub returns : goal.returns
 returns g c =
     let o = g.B.OfferBook.orders c.args.book.now in
-    let z = between_none o.book.offers (words c.loop-key.last) (words c.args.high) (none_above o.book.offers (words c.loop-key.last) c.in-default.ensures) in
+    let z = between_none o.book.offers (words c.loop-key.last) (words c.args.high) (none_above o.book.offers (words c.loop-key.last) c.in_default.ensures) in
     omega (arith, z, c.loop-key.invariant)

@@ -18,7 +18,7 @@ loop-number-init g c =
     ap (λ xs. vec_items c.args.lines.now ++ map line.Account xs) all
 
 -- the account that the loop comes to
-after : (g : _) (c : goal.In-ok-push g)
+after : (g : _) (c : goal.In_ok-push g)
     → Next name (g.S.AccountStore.ledger c.args.replica.now.store).store.accounts (c.loop-number.at ∷ []) (c.in-Some.number ∷ [])
 after g c =
     let st = (g.S.AccountStore.ledger c.args.replica.now.store).store in
@@ -34,12 +34,12 @@ loop-number-preserved g c =
     let n = after g c in
     let number : n.entry.number ≡ c.in-Some.number = let e = n.is in cc in
     let is = c.account.ensures n.entry n.has number in
-    let items = c.in-ok-push.ensures.items ∙ ap (λ a. vec_items c.loop-number.lines ++ line.Account a ∷ []) is in
+    let items = c.in_ok-push.ensures.items ∙ ap (λ a. vec_items c.loop-number.lines ++ line.Account a ∷ []) is in
     moved name line.Account st.accounts (c.loop-number.at ∷ []) (c.in-Some.number ∷ []) _ _ _ n items c.loop-number.invariant
 
 pub returns : goal.returns
 returns g c =
     let st = (g.S.AccountStore.ledger c.args.replica.now.store).store in
     let ok = store_parts st (g.S.AccountStore.ledger c.args.replica.now.store).sound in
-    let none = rest_end name st.accounts (c.loop-number.at ∷ []) (All-weaker _ _ (λ a _. some a.number) st.accounts ok.fit) (sym c.in-default.ensures) in
+    let none = rest_end name st.accounts (c.loop-number.at ∷ []) (All-weaker _ _ (λ a _. some a.number) st.accounts ok.fit) (sym c.in_default.ensures) in
     ended name line.Account st.accounts (c.loop-number.at ∷ []) _ _ none c.loop-number.invariant

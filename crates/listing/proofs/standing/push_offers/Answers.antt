@@ -30,7 +30,7 @@ loop-key-init g c =
     ap (λ os. vec_items c.args.lines.now ++ map line.Offer os) all
 
 -- the offer that the loop comes to
-after : (g : _) (c : goal.In-ok-push g)
+after : (g : _) (c : goal.In_ok-push g)
     → Next place (g.B.OfferBook.orders c.args.replica.now.book).book.offers (words c.loop-key.at) (words c.in-Some.key)
 after g c =
     let bk = (g.B.OfferBook.orders c.args.replica.now.book).book in
@@ -50,11 +50,11 @@ loop-key-preserved g c =
     let amount : c.amount-amount.result ≡ o.amount =
     c.amount-amount.ensures ∙ ap (under place (λ p. p.amount) bk.offers) (sym n.is) ∙ all-has _ bk.offers o (under_each place (λ p. p.amount) bk.offers ok.up) n.has in
     let is : record { key = c.in-Some.key; amount = c.amount-amount.result } ≡ o = λ i. record { key = key i; amount = amount i } in
-    let items = c.in-ok-push.ensures.items ∙ ap (λ p. vec_items c.loop-key.lines ++ line.Offer p ∷ []) is in
+    let items = c.in_ok-push.ensures.items ∙ ap (λ p. vec_items c.loop-key.lines ++ line.Offer p ∷ []) is in
     moved place line.Offer bk.offers (words c.loop-key.at) (words c.in-Some.key) _ _ _ n items c.loop-key.invariant
 
 pub returns : goal.returns
 returns g c =
     let bk = (g.B.OfferBook.orders c.args.replica.now.book).book in
-    let none = rest_end place bk.offers (words c.loop-key.at) (All-weaker _ _ (λ o _. some _ 5 refl (omega arith)) bk.offers (book_parts bk (g.B.OfferBook.orders c.args.replica.now.book).sound).fit) (sym c.in-default.ensures) in
+    let none = rest_end place bk.offers (words c.loop-key.at) (All-weaker _ _ (λ o _. some _ 5 refl (omega arith)) bk.offers (book_parts bk (g.B.OfferBook.orders c.args.replica.now.book).sound).fit) (sym c.in_default.ensures) in
     ended place line.Offer bk.offers (words c.loop-key.at) _ _ none c.loop-key.invariant

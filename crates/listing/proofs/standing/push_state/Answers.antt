@@ -5,5 +5,5 @@ use Rattle.listing.proofs.standing.push_state.Goals as goal
 
 pub returns : goal.returns
 returns g c = λ sound.
-    four _ _ _ _ _ _ _ _ _ _ _ c.in-ok-push.ensures.items c.in-ok-push_accounts.ensures c.in-ok-push_offers.ensures c.in-ok-push-2.ensures.items
+    four _ _ _ _ _ _ _ _ _ _ _ c.in_ok-push.ensures.items c.in_ok-push_accounts.ensures c.in_ok-push_offers.ensures c.in_ok-push-2.ensures.items
     (ap line.Remainders (c.remainders.ensures sound.owned.ordered.remainders)) (ap line.Digest c.digest.ensures)

@@ -12,19 +12,19 @@ use Rattle.std.proofs.lemmas.Bool.Decides.{Decides-eqb}
 pub returns-then-eq : goal.returns-then-eq
 returns-then-eq c = (λ _. inl ((slice_eq-Decides Decides-eqb c.args.first.now c.args.second.now c.eq.result c.eq.ensures).0 c.if-eq.true), λ _. refl)
 
-pub returns-in-default : goal.returns-in-default
-returns-in-default c =
+pub returns-in_default : goal.returns-in_default
+returns-in_default c =
     let bs = c.args.first.now in
     let cs = c.args.second.now in
     unlike Readable Rearranged bs cs (λ e. both_ways c.eq.result c.if-eq.false ((slice_eq-Decides Decides-eqb bs cs c.eq.result c.eq.ensures).1 e))
-    (λ x y p q. read_one_way.block_or_fault bs x c.in-default.field-0 p c.in-default.ensures)
+    (λ x y p q. read_one_way.block_or_fault bs x c.in_default.field-0 p c.in_default.ensures)
 
-pub returns-in-default-read_block : goal.returns-in-default-read_block
-returns-in-default-read_block c =
+pub returns-in_default-read_block : goal.returns-in_default-read_block
+returns-in_default-read_block c =
     let bs = c.args.first.now in
     let cs = c.args.second.now in
     unlike Readable Rearranged bs cs (λ e. both_ways c.eq.result c.if-eq.false ((slice_eq-Decides Decides-eqb bs cs c.eq.result c.eq.ensures).1 e))
-    (λ x y p q. read_one_way.block_or_fault cs y c.in-default-read_block.field-0 q c.in-default-read_block.ensures)
+    (λ x y p q. read_one_way.block_or_fault cs y c.in_default-read_block.field-0 q c.in_default-read_block.ensures)
 
 pub returns : goal.returns
 returns c =

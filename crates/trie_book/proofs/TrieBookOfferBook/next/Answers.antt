@@ -3,8 +3,8 @@ use Rattle.terms.specs.Order.{words}
 use Rattle.trie_book.proofs.Flats.{next_is, next_none, held_small}
 use Rattle.trie_book.proofs.TrieBookOfferBook.next.Goals as goal
 
-pub returns-in-default : goal.returns-in-default
-returns-in-default c = let t = c.args.self.now.trie in next_none t.root t.ok c.args.key c.in-default.ensures
+pub returns-in_default : goal.returns-in_default
+returns-in_default c = let t = c.args.self.now.trie in next_none t.root t.ok c.args.key c.in_default.ensures
 
 pub key_of-requires : goal.key_of-requires
 key_of-requires c = let t = c.args.self.now.trie in held_small t.root t.ok c.in-Some-next.x c.in-Some-next.ensures.1

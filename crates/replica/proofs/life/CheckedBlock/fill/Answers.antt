@@ -7,8 +7,8 @@ use Rattle.replica.proofs.life.CheckedBlock.fill.Goals as goal
 pub returns : goal.returns
 returns g c = λ steady.
     let s = state_of (g.S.AccountStore.ledger c.args.replica.now.store).store (g.B.OfferBook.orders c.args.replica.now.book).book c.args.replica.now.numbers in
-    let b = block_of c.in-ok-block.block in
-    let rules = c.in-ok-block.ensures in
+    let b = block_of c.in_ok-block.block in
+    let rules = c.in_ok-block.ensures in
     let p = passes s _ b rules in
     let f = c.filled-sold.ensures s refl p.clean in
     record { ruling = Ok b; rules = rules; answer = ap₂ (λ n m. Ok (n, m)) f.0 f.1 }

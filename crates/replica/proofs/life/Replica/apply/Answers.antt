@@ -5,10 +5,10 @@ use Rattle.replica.specs.Meaning.{state_of}
 use Rattle.replica.proofs.Applies.{height_left, applied}
 use Rattle.replica.proofs.life.Replica.apply.Goals as goal
 
-pub returns-in-err-clear : goal.returns-in-err-clear
-returns-in-err-clear g c = λ sound clean.
+pub returns-in_err-clear : goal.returns-in_err-clear
+returns-in_err-clear g c = λ sound clean.
     let s = state_of (g.S.AccountStore.ledger c.args.self.now.store).store (g.B.OfferBook.orders c.args.self.now.book).book c.args.self.now.numbers in
-    absurd (c.in-err-clear.ensures s refl refl refl sound clean)
+    absurd (c.in_err-clear.ensures s refl refl refl sound clean)
 
 pub returns : goal.returns
 returns g c = λ sound clean.
@@ -22,6 +22,6 @@ returns g c = λ sound clean.
     let left : n.height + 1 < 4294967296 = height_left s b clean c.args.block.now.ranges in
     let height : n.height + 1 ≡ c.saturating_add-height.result = omega (arith, left, c.saturating_add-height.ensures) in
     let count : n.committed + 1 ≡ c.saturating_add.result = omega (arith, left, n.level, c.saturating_add.ensures) in
-    let cleared = c.in-ok-clear.ensures s refl refl refl sound clean in
+    let cleared = c.in_ok-clear.ensures s refl refl refl sound clean in
     let digest = c.state_digest-digest.ensures (after s st bk rs d) refl refl height refl in
     (refl, applied s b st bk rs d _ _ cleared (g.S.AccountStore.ledger c.clear.new.store).sound (g.B.OfferBook.orders c.clear.new.book).sound height count digest)

@@ -20,32 +20,32 @@ returns-then-count-ne0 g c =
       | then-count-ne0-via-else-count-ne0+then-count-ne0-2 w ↦ inr (λ e. w.if-count-ne0-2.true (w.count-else-count-ne0.ensures ∙ e))
     ]))
 
-pub returns-in-err-founding : goal.returns-in-err-founding
-returns-in-err-founding g c =
+pub returns-in_err-founding : goal.returns-in_err-founding
+returns-in_err-founding g c =
     let s = state_of (g.S.AccountStore.ledger c.args.self.now.store).store (g.B.OfferBook.orders c.args.self.now.book).book c.args.self.now.numbers in
-    let p = err_from_is_err_and c.from-residual.result c.from-residual.ensures.1 in
-    rw (p.1, p.2) (found_refused s _ _ c.if-self.false (sym c.count.ensures ∙ c.if-count-ne0.false) (sym c.count-else-count-ne0.ensures ∙ c.if-count-ne0-2.false) (inl c.in-err-founding.ensures))
+    let p = err_from_is_err_and c.from_residual.result c.from_residual.ensures.1 in
+    rw (p.1, p.2) (found_refused s _ _ c.if-self.false (sym c.count.ensures ∙ c.if-count-ne0.false) (sym c.count-else-count-ne0.ensures ∙ c.if-count-ne0-2.false) (inl c.in_err-founding.ensures))
 
-pub returns-in-err-judge_founding : goal.returns-in-err-judge_founding
-returns-in-err-judge_founding g c =
+pub returns-in_err-judge_founding : goal.returns-in_err-judge_founding
+returns-in_err-judge_founding g c =
     let s = state_of (g.S.AccountStore.ledger c.args.self.now.store).store (g.B.OfferBook.orders c.args.self.now.book).book c.args.self.now.numbers in
-    let p = err_from_is_err_and c.from-residual-in-err-judge_founding.result c.from-residual-in-err-judge_founding.ensures.1 in
+    let p = err_from_is_err_and c.from_residual-in_err-judge_founding.result c.from_residual-in_err-judge_founding.ensures.1 in
     rw (p.1, p.2) (found_refused s _ _ c.if-self.false (sym c.count.ensures ∙ c.if-count-ne0.false) (sym c.count-else-count-ne0.ensures ∙ c.if-count-ne0-2.false)
-    (inr (grants_of c.in-ok-founding.founding, c.in-ok-founding.ensures, c.in-err-judge_founding.ensures)))
+    (inr (grants_of c.in_ok-founding.founding, c.in_ok-founding.ensures, c.in_err-judge_founding.ensures)))
 
 pub returns : goal.returns
 returns g c =
     let st = (g.S.AccountStore.ledger c.args.self.now.store).store in
     let bk = (g.B.OfferBook.orders c.args.self.now.book).book in
     let s = state_of st bk c.args.self.now.numbers in
-    let gs = grants_of c.in-ok-founding.founding in
+    let gs = grants_of c.in_ok-founding.founding in
     let nobody : length st.accounts ≡ 0 = sym c.count.ensures ∙ c.if-count-ne0.false in
     let nothing : length bk.offers ≡ 0 = sym c.count-else-count-ne0.ensures ∙ c.if-count-ne0-2.false in
-    let clean = c.in-ok-judge_founding.ensures in
+    let clean = c.in_ok-judge_founding.ensures in
     let digest = c.state_digest-digest.ensures (newly (g.S.AccountStore.ledger c.grant_all.new.store).store bk c.state_digest-digest.result) refl refl refl refl in
     record {
       ruling = Ok gs;
-      rules = found_ruled s _ (Ok gs) c.if-self.false nobody nothing (c.in-ok-founding.ensures, clean);
+      rules = found_ruled s _ (Ok gs) c.if-self.false nobody nothing (c.in_ok-founding.ensures, clean);
       answer = refl;
-      after = made s gs (g.S.AccountStore.ledger c.grant_all.new.store).store c.state_digest-digest.result nobody nothing (g.S.AccountStore.ledger c.grant_all.new.store).sound (g.B.OfferBook.orders c.args.self.now.book).sound (c.in-ok-grant_all.ensures nobody clean) digest;
+      after = made s gs (g.S.AccountStore.ledger c.grant_all.new.store).store c.state_digest-digest.result nobody nothing (g.S.AccountStore.ledger c.grant_all.new.store).sound (g.B.OfferBook.orders c.args.self.now.book).sound (c.in_ok-grant_all.ensures nobody clean) digest;
     }

@@ -5,13 +5,13 @@ use Rattle.replica.specs.Meaning.{state_of}
 use Rattle.replica.proofs.Rulings.{when_true}
 use Rattle.replica.proofs.life.Replica.rule.Goals as goal
 
-pub returns-in-err-judge : goal.returns-in-err-judge
-returns-in-err-judge g c =
+pub returns-in_err-judge : goal.returns-in_err-judge
+returns-in_err-judge g c =
     let s = state_of (g.S.AccountStore.ledger c.args.self.now.store).store (g.B.OfferBook.orders c.args.self.now.book).book c.args.self.now.numbers in
-    let p = err_from_is_err_and c.from-residual-in-err-judge.result c.from-residual-in-err-judge.ensures.1 in
-    rw (p.1, p.2) (when_true _ _ _ c.if-not-self.false (inr (block_of c.in-ok-block.block, c.in-ok-block.ensures, c.in-err-judge.ensures s refl refl refl refl)))
+    let p = err_from_is_err_and c.from_residual-in_err-judge.result c.from_residual-in_err-judge.ensures.1 in
+    rw (p.1, p.2) (when_true _ _ _ c.if-not-self.false (inr (block_of c.in_ok-block.block, c.in_ok-block.ensures, c.in_err-judge.ensures s refl refl refl refl)))
 
 pub returns : goal.returns
 returns g c =
     let s = state_of (g.S.AccountStore.ledger c.args.self.now.store).store (g.B.OfferBook.orders c.args.self.now.book).book c.args.self.now.numbers in
-    when_true _ _ _ c.if-not-self.false (c.in-ok-block.ensures, c.in-ok-judge.ensures s refl refl refl refl)
+    when_true _ _ _ c.if-not-self.false (c.in_ok-block.ensures, c.in_ok-judge.ensures s refl refl refl refl)
