@@ -1,5 +1,5 @@
 -- An account that is opened and then given its balances one by one. Assumes nothing.
-use Rattle.std.proofs.Common.{◌≡◌, ℕ, ◌+◌, ◌<◌, ◌≤◌, Bool, true, false, cond, ◌&&◌, ◌||◌, eqb, ltb, ◌⊎◌, List, [], ◌∷◌, length, get_or, Ok, Err, Result, sym, refl, ap, ◌∙◌, inl, inr, arith}
+use Rattle.std.proofs.Common.{◌≡◌, ℕ, ◌+◌, ◌<◌, true, cond, ◌&&◌, ◌||◌, eqb, ltb, List, [], ◌∷◌, length, get_or, Ok, Err, Result, sym, refl, ap, ◌∙◌, inl, inr, arith}
 use Rattle.std.proofs.lemmas.List.{get_or_past}
 use Rattle.std.proofs.lemmas.Bool.{cases_lt, cases_eq, and_from, and_left, and_right, eq-eqb, ne_eqb, lt-ltb, le-ltb, cond-true, cond-false, cases_Bool, ltb-true}
 use Rattle.terms.specs.Holdings.{Store, standing, floor_at, balance_at}
@@ -8,7 +8,7 @@ use Rattle.std.proofs.ByRecursion.{All-get_or}
 use Rattle.terms.specs.Order.{name}
 use Rattle.terms.specs.Ranges.{every, is_balance}
 use Rattle.ordered.proofs.Rising.{every_all, under_absent}
-use Rattle.accounts.specs.Changes.{open_answer, balance_answer, refused, Opened, BalanceSet, Granted}
+use Rattle.accounts.specs.Changes.{open_answer, balance_answer, Opened, BalanceSet, Granted}
 use Rattle.accounts.proofs.Replies.{balance_made}
 
 pub never : {f : Fault} → ◌≡◌ {A = Result (Unit {0}) Fault} (Ok tt) (Err f) → ⊥

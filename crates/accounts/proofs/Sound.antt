@@ -1,11 +1,11 @@
 -- The tests of order and range of an account store, as facts, and back. Assumes nothing.
-use Rattle.std.proofs.Common.{◌≡◌, ℕ, ◌+◌, ◌<◌, ◌≤◌, Bool, true, false, cond, not, ◌&&◌, eqb, ltb, leb, List, [], ◌∷◌, length, sym, refl, ap, ◌∙◌, arith}
+use Rattle.std.proofs.Common.{◌≡◌, ℕ, ◌<◌, ◌≤◌, true, length}
 use Rattle.std.specs.List.{AllByRecursion as All}
 use Rattle.std.proofs.lemmas.Bool.{and_parts, and_from, ltb-true, leb-true, eqb-true, lt-ltb, le-leb, eq-eqb}
 use Rattle.terms.specs.declared.Account.{Account}
 use Rattle.terms.specs.Order.{Rising, name}
-use Rattle.terms.specs.Ranges.{every, is_balance, fit_account}
-use Rattle.terms.specs.Holdings.{Store, rising, sound_store}
+use Rattle.terms.specs.Ranges.{is_balance, fit_account}
+use Rattle.terms.specs.Holdings.{Store, sound_store}
 use Rattle.ordered.proofs.Rising.{every_all, all_every, rising_is, is_rising}
 
 pub record FitAccount (top : ℕ) (a : Account) : Type 0 where

@@ -1,5 +1,5 @@
 -- What a change of an account store answers, and what it leaves. Assumes nothing.
-use Rattle.std.specs.Prelude.{◌≡◌, ℕ, ◌+◌, Bool, true, false, cond, ◌&&◌, ◌||◌, List, length, Ok, Err, Result, ◌==◌, nat_le, nat_lt, slice_index}
+use Rattle.std.specs.Prelude.{◌≡◌, ℕ, ◌+◌, cond, ◌&&◌, ◌||◌, List, length, Ok, Err, Result, ◌==◌, nat_le, nat_lt, slice_index}
 use Rattle.terms.specs.declared.Fault.{Fault}
 use Rattle.terms.specs.Ranges.{is_asset, is_balance, are_balances}
 use Rattle.terms.specs.Holdings.{Store, standing, floor_at, balance_at}

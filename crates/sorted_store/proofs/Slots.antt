@@ -1,5 +1,5 @@
 -- The first len of the slots as an account store: what a search finds there, and what an edit leaves. Assumes nothing.
-use Rattle.std.proofs.Common.{◌≡◌, ℕ, ◌+◌, ◌<◌, ◌≤◌, Bool, true, false, cond, ◌&&◌, ltb, leb, List, [], ◌∷◌, length, get_or, take, set, Some, None, sym, refl, ap, ◌∙◌, subst, arith}
+use Rattle.std.proofs.Common.{◌≡◌, ℕ, ◌+◌, ◌<◌, ◌≤◌, Bool, true, cond, ◌&&◌, ltb, leb, List, [], ◌∷◌, length, get_or, take, set, sym, refl, ap, ◌∙◌, subst, arith}
 use Rattle.std.specs.List.{insert}
 use Rattle.std.proofs.lemmas.List.{length-take-le}
 use Rattle.std.proofs.ByRecursion.{All-get_or}
@@ -7,13 +7,13 @@ use Rattle.std.proofs.lemmas.Bool.{cond-true, and_from, lt-ltb, le-leb}
 use Rattle.terms.specs.declared.Account.{Account}
 use Rattle.terms.specs.Order.{name, under}
 use Rattle.terms.specs.Ranges.{fit_account}
-use Rattle.terms.specs.Holdings.{Store, sound_store}
+use Rattle.terms.specs.Holdings.{sound_store}
 use Rattle.ordered.specs.Places.{Gap, At}
 use Rattle.ordered.proofs.Rising.{under_at, under_gap}
 use Rattle.accounts.specs.Changes.{Opened, BalanceSet, FloorSet}
 use Rattle.accounts.proofs.Sound.{SoundStore, store_parts, account_parts}
 use Rattle.accounts.proofs.Edits.{store_is, with_accounts, fresh, with_balance, with_floor, opened, balance_set, floor_set}
-use Rattle.sorted_store.specs.Rows.{store_of, Found}
+use Rattle.sorted_store.specs.Rows.{store_of}
 
 module _ (len top : ℕ) (ss : List Account) (fits : len ≤ length ss) (sound : sound_store (store_of len top ss) ≡ true) where
   pub ok : SoundStore (store_of len top ss)

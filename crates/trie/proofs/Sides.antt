@@ -2,7 +2,7 @@
 use Rattle.std.proofs.Common.{◌≡◌, ℕ, ◌+◌, ◌-◌, ◌*◌, ◌/◌, ◌%◌, ◌^◌, ◌<◌, ◌≤◌, max, Bool, true, false, cond, ◌&&◌, eqb, ltb, Some, None, Option, Box, sym, refl, ap, ◌∙◌, subst, arith}
 use native.Mathlib.Decide.{dec_lt}
 use Rattle.std.proofs.lemmas.Bool.Decides.{nat_tests}
-use Rattle.trie.specs.Trie.{held, under, total, offers, Amount, within, ordered, Ordered, whole, Whole, Parted, Placed, Removed, forks, Near, Hangs, Next}
+use Rattle.trie.specs.Trie.{held, under, total, offers, Amount, within, ordered, Ordered, Whole, Parted, Placed, Removed, forks, Near, Hangs, Next}
 use Rattle.trie.proofs.Numbers.{block, Fork, fork, same_block, in_block, above}
 use Rattle.std.specs.Box.{with_value}
 use Rattle.trie.specs.declared.node.Node.{Node, Branch}

@@ -1,4 +1,4 @@
-use Rattle.std.proofs.Common.{◌≡◌, sym, ◌∙◌, arith}
+use Rattle.std.proofs.Common.{sym, ◌∙◌, arith}
 use Rattle.offers.proofs.Sound.{book_parts}
 use Rattle.offers.proofs.Replaces.{ends}
 use Rattle.offers.proofs.replace.Goals as goal

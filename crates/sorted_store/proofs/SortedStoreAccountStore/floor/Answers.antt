@@ -1,4 +1,4 @@
-use Rattle.std.proofs.Common.{sym, ◌∙◌}
+use Rattle.std.proofs.Common.{sym}
 use Rattle.sorted_store.proofs.Slots.{all_at}
 use Rattle.sorted_store.proofs.SortedStoreAccountStore.floor.Goals as goal
 

@@ -1,4 +1,4 @@
-use Rattle.std.proofs.Common.{◌≡◌, cond, take, Ok, Err, refl, ap, ◌∙◌, arith}
+use Rattle.std.proofs.Common.{cond, take, Err, refl, ap, ◌∙◌, arith}
 use Rattle.std.specs.List.{insert}
 use Rattle.accounts.proofs.Edits.{fresh}
 use Rattle.accounts.proofs.Replies.{open_stands, open_full, open_made}
@@ -10,7 +10,7 @@ pub invariant_of-self : goal.invariant_of-self
 invariant_of-self c =
     let o = opens c.args.self.now.table.len c.args.self.now.top c.args.self.now.table.slots.now c.args.self.now.fits c.args.self.now.sound c.args.number c.in-Err.i c.insert.new.self.len c.insert.new.self.slots.now c.insert.result (omega arith) (omega arith) (c.in-Err.ensures (ok c.args.self.now.table.len c.args.self.now.top c.args.self.now.table.slots.now c.args.self.now.fits c.args.self.now.sound).up)
     (omega (arith, rows c.args.self.now.table.len c.args.self.now.top c.args.self.now.table.slots.now c.args.self.now.fits c.args.self.now.sound)) c.insert.ensures.done c.insert.ensures.len c.insert.ensures.fits (c.insert.ensures.records ∙ ap (λ a. cond c.insert.result (insert (take c.args.self.now.table.len c.args.self.now.table.slots.now) c.in-Err.i a) (take c.args.self.now.table.len c.args.self.now.table.slots.now)) c.new_account.ensures) in
-    (o.2, (o.1, tt))
+    record { fits = o.2; sound = o.1 }
 
 pub returns-in-Ok : goal.returns-in-Ok
 returns-in-Ok c =

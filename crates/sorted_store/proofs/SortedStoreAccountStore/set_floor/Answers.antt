@@ -1,4 +1,4 @@
-use Rattle.std.proofs.Common.{◌≡◌, Ok, Err, refl, ap, ◌∙◌, arith}
+use Rattle.std.proofs.Common.{arith}
 use Rattle.accounts.proofs.Edits.{fresh}
 use Rattle.accounts.proofs.Replies.{floor_made}
 use Rattle.sorted_store.specs.Rows.{store_of}
@@ -9,7 +9,7 @@ pub invariant_of-self : goal.invariant_of-self
 invariant_of-self c =
     let o = sets_floor c.args.self.now.table.len c.args.self.now.top c.args.self.now.table.slots.now c.args.self.now.fits c.args.self.now.sound c.args.number c.args.value c.in-Some.i c.set.new.self.len c.in-Some.a c.set.new.self.slots.now c.set.result
     c.in-Some.ensures.0 c.in-Some.ensures.1 (omega arith) c.set.ensures.done c.set.ensures.len c.set.ensures.fits c.set.ensures.records in
-    (o.2, (o.1, tt))
+    record { fits = o.2; sound = o.1 }
 
 pub returns-in-Some : goal.returns-in-Some
 returns-in-Some c =

@@ -28,4 +28,11 @@ invariant_of-self-2 c =
     let a = c.in-Some.ensures in
     let b = c.in-Some-pop.ensures in
     let whole = to_whole c.place.new.node e.ok (e.keys 0 (2 ^ 102) w.1 (omega arith) c.requires.range) in
-    (whole, (omega (arith, e.more), (omega arith, (omega (arith, a.cases, b.cases), (omega (arith, a.capacity, b.capacity), (omega arith, tt))))))
+    record {
+      ok = whole;
+      counted = omega (arith, e.more);
+      few = omega arith;
+      stock = omega (arith, a.cases, b.cases);
+      room = omega (arith, a.capacity, b.capacity);
+      small = omega arith;
+    }

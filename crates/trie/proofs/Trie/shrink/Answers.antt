@@ -9,7 +9,14 @@ invariant_of-self c =
     let p : 0 < held s.root c.args.key = omega arith in
     let w = of_whole s.root s.ok (held_some s.root c.args.key p) in
     let e = c.reduce.ensures in
-    (to_whole c.reduce.new.node e.ok (e.keys 0 (2 ^ 102) ∙ w.1), (omega (arith, e.count), (omega arith, (omega arith, (omega arith, (omega arith, tt))))))
+    record {
+      ok = to_whole c.reduce.new.node e.ok (e.keys 0 (2 ^ 102) ∙ w.1);
+      counted = omega (arith, e.count);
+      few = omega arith;
+      stock = omega arith;
+      room = omega arith;
+      small = omega arith;
+    }
 
 pub push_reserved-requires : goal.push_reserved-requires
 push_reserved-requires c =
@@ -35,4 +42,11 @@ invariant_of-self-then-is_branch c =
     let a = c.push_reserved.ensures in
     let b = c.push_reserved-then-is_branch.ensures in
     let whole = to_whole c.remove-leaf.new.node e.ok (e.keys 0 (2 ^ 102) w.1) in
-    (whole, (omega (arith, e.fewer), (omega arith, (omega (arith, two, a.len, b.len), (omega (arith, a.capacity, b.capacity), (omega arith, tt))))))
+    record {
+      ok = whole;
+      counted = omega (arith, e.fewer);
+      few = omega arith;
+      stock = omega (arith, two, a.len, b.len);
+      room = omega (arith, a.capacity, b.capacity);
+      small = omega arith;
+    }

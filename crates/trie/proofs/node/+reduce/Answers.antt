@@ -1,5 +1,5 @@
 use Rattle.std.proofs.Common.{◌&&◌, sym, ap, ◌∙◌, arith}
-use Rattle.trie.specs.Trie.{total, within}
+use Rattle.trie.specs.Trie.{within}
 use Rattle.trie.proofs.Sides.{sides, held_total, joined, put_left, put_right}
 use Rattle.trie.proofs.node.+reduce.Goals as goal
 

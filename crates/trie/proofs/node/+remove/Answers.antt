@@ -1,5 +1,5 @@
-use Rattle.std.proofs.Common.{◌≡◌, true, false, sym, ap, ◌∙◌, subst, arith}
-use Rattle.trie.specs.Trie.{Ordered, forks}
+use Rattle.std.proofs.Common.{sym, ◌∙◌, subst, arith}
+use Rattle.trie.specs.Trie.{Ordered}
 use Rattle.trie.proofs.Sides.{sides, held_total, removed_left, removed_right, leaf_is}
 use Rattle.trie.proofs.node.+remove.Goals as goal
 

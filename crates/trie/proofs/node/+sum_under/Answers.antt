@@ -1,5 +1,4 @@
-use Rattle.std.proofs.Common.{sym, ap, ◌∙◌, arith}
-use Rattle.trie.specs.Trie.{under, total}
+use Rattle.std.proofs.Common.{sym, ◌∙◌, arith}
 use Rattle.trie.proofs.Sides.{sides, under_total}
 use Rattle.trie.proofs.node.+sum_under.Goals as goal
 

@@ -1,5 +1,5 @@
-use Rattle.std.proofs.Common.{◌≡◌, sym, ap, ◌∙◌, subst}
-use Rattle.trie.specs.Trie.{Lone, Removed, Ordered}
+use Rattle.std.proofs.Common.{sym, ◌∙◌, subst}
+use Rattle.trie.specs.Trie.{Lone}
 use Rattle.trie.proofs.Sides.{sides, collapsed_left, collapsed_right}
 use Rattle.trie.proofs.node.collapse.Goals as goal
 

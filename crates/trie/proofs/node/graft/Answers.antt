@@ -1,4 +1,4 @@
-use Rattle.std.proofs.Common.{◌≡◌, ◌*◌, ◌/◌, ◌%◌, ◌^◌, ◌<◌, mod-eq_of_lt, arith}
+use Rattle.std.proofs.Common.{◌*◌, ◌/◌, ◌%◌, ◌^◌, ◌<◌, mod-eq_of_lt, arith}
 use Rattle.trie.proofs.Numbers.{block}
 use Rattle.trie.proofs.Sides.{grafted}
 use Rattle.trie.proofs.node.graft.Goals as goal
