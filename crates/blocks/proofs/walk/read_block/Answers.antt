@@ -50,7 +50,7 @@ invariant_of-result c =
     let s = i.2.says in
     let r = read c.args.bytes.now i.1 c.loop-at.at c.loop-at.stage c.loop-at.draft i.2 _ _ c.in_ok-reading.ensures
     c.in-End.is c.if-reading-bytes.false i.0 in
-    (pairs_few c.loop-at.draft i.1 c.loop-at.stage s, (s.few, (readable_fits c.args.bytes.now (spoken c.loop-at.draft) r, tt)))
+    record { pairs = pairs_few c.loop-at.draft i.1 c.loop-at.stage s; few = s.few; ranges = readable_fits c.args.bytes.now (spoken c.loop-at.draft) r }
 
 pub returns-in-End : goal.returns-in-End
 returns-in-End c =

@@ -48,7 +48,7 @@ invariant_of-result c =
     let h = i.2.room in
     let t = c.loop-at-test.true in
     let few : c.loop-at.count ≤ 579 = omega (arith, h, t, i.0) in
-    (few, (founds_fits c.args.bytes.now (take c.loop-at.count c.loop-at.grants) r, tt))
+    record { few = few; ranges = founds_fits c.args.bytes.now (take c.loop-at.count c.loop-at.grants) r }
 
 pub returns-in-End : goal.returns-in-End
 returns-in-End c =
