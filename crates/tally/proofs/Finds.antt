@@ -1,5 +1,5 @@
 -- What a search by halving finds in a rising list. Assumes nothing.
-use Rattle.std.proofs.Common.{◌≡◌, ℕ, ◌<◌, ◌≤◌, true, false, List, length, get_or, sym, ap, ◌∙◌, subst}
+use Rattle.std.proofs.Common.{◌≡◌, ℕ, ◌<◌, ◌≤◌, true, false, List, length, get_or, sym, ap, ◌∙◌}
 use Rattle.terms.specs.Order.{lower, Rising, under}
 use Rattle.ordered.proofs.Windows.{Window, window_cut, at_here, gap_here, gap_end}
 use Rattle.ordered.proofs.Rising.{under_at, under_gap}

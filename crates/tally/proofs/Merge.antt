@@ -1,15 +1,15 @@
 -- Effects added up, one by one. Assumes nothing.
-use Rattle.std.proofs.Common.{◌≡◌, ℕ, ◌+◌, ◌-◌, ◌*◌, ◌^◌, ◌<◌, ◌≤◌, Bool, true, false, cond, ◌⊎◌, List, [], ◌∷◌, ◌++◌, length, get_or, take, set, sum_by, sym, refl, ap, ◌∙◌, subst, ap₂, inl, inr, arith}
-use Rattle.std.specs.List.{ContainsAt as Has, AllByRecursion as All}
+use Rattle.std.proofs.Common.{◌≡◌, ℕ, ◌+◌, ◌-◌, ◌^◌, ◌<◌, ◌≤◌, Bool, true, false, cond, List, [], ◌∷◌, ◌++◌, length, get_or, take, set, sym, refl, ap, ◌∙◌, subst, inl, inr, arith}
+use Rattle.std.specs.List.{AllByRecursion as All}
 use Rattle.std.proofs.lemmas.List.{take_more, take_more_set, get_or_default}
-use Rattle.std.proofs.lemmas.List.Sums.{sum_by-append, sum_by_push, sum_by-cons}
-use Rattle.std.proofs.lemmas.Bool.{cases_Bool, cond_both, both_ways, cond-true, cond-false}
-use Rattle.std.proofs.ByRecursion.{All-push, All-weaker, All-append}
+use Rattle.std.proofs.lemmas.List.Sums.{sum_by_push, sum_by-cons}
+use Rattle.std.proofs.lemmas.Bool.{cases_Bool, both_ways, cond-true, cond-false}
+use Rattle.std.proofs.ByRecursion.{All-weaker}
 use Rattle.std.specs.Cmp.{IsStrictWeakOrder}
 use Rattle.std.specs.List.Sorted.{IsSortedWithin}
 use Rattle.std.proofs.lemmas.List.Sorted.{sorted_far}
 use Rattle.terms.specs.Order.{lower, same, Rising, under}
-use Rattle.terms.proofs.Order.{irreflexive, transitive, total, asymmetric}
+use Rattle.terms.proofs.Order.{transitive, total, asymmetric}
 use Rattle.tally.specs.declared.effects.Effect.{Effect}
 use Rattle.tally.specs.declared.effects.Net.{Net}
 use Rattle.tally.specs.Tally.{net_of, with_more, added, Tallied, Small, Ahead}

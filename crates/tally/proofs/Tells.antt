@@ -1,10 +1,9 @@
 -- From what a report tells to what is asked for. Assumes nothing.
-use Rattle.std.proofs.Common.{◌≡◌, ℕ, Bool, true, false, List, [], ◌∷◌, Ok, Err, Result, sym, refl, ◌∙◌, subst, arith}
-use Rattle.std.specs.List.{ContainsAt as Has}
+use Rattle.std.proofs.Common.{◌≡◌, ℕ, false, [], ◌∷◌, Ok, Err, Result, sym, refl, subst, arith}
 use Rattle.std.proofs.lemmas.Bool.Decides.{nat_tests}
 use Rattle.terms.specs.declared.Fault.{Fault}
 use Rattle.terms.specs.Order.{lower}
-use Rattle.tally.specs.Least.{Told, Broken}
+use Rattle.tally.specs.Least.{Told}
 
 -- the same places, told in other words
 pub told_by : (P Q : ℕ → ℕ → Type 0) (n : ℕ) (r : Result (Unit {0}) Fault)

@@ -1,6 +1,5 @@
 -- Effects added up under their keys. Assumes nothing.
-use Rattle.std.specs.Prelude.{◌≡◌, ℕ, ◌+◌, ◌*◌, ◌^◌, ◌<◌, ◌≤◌, Bool, true, false, cond, ◌&&◌, List, [], ◌∷◌, length, nat_le, slice_index_or}
-use Rattle.std.specs.List.{AllByRecursion as All}
+use Rattle.std.specs.Prelude.{◌≡◌, ℕ, ◌+◌, ◌*◌, ◌^◌, ◌<◌, ◌≤◌, Bool, false, cond, ◌&&◌, List, [], ◌∷◌, length, nat_le, slice_index_or}
 use Rattle.terms.specs.Order.{lower, Rising, under}
 use Rattle.tally.specs.declared.effects.Effect.{Effect}
 use Rattle.tally.specs.declared.effects.Net.{Net}

@@ -8,9 +8,10 @@ ghost use Rattle.terms.specs.Order.{lower, Rising, under};
 ghost use Rattle.tally.specs.Order.{order};
 ghost use Rattle.tally.specs.Tally.{added, roomy, Tallied, Small};
 ghost use Rattle.tally.specs.declared.effects.Effect.{Effect};
-ghost use Rattle.std.specs.Cmp.Rules.{comparing};
-ghost use Rattle.std.proofs.Common.{rules};
-ghost use Rattle.std.specs.Cmp as Keys;
+ghost use Rattle.std.specs.Ordering.{on, eq_by_cmp, as_partial_cmp};
+ghost use Rattle.std.specs.Cmp.{partial_equiv_from_equiv, eq_by_cmp_equiv, on_total, partial_order_from_total};
+ghost use Rattle.std.proofs.Common.{refl};
+ghost use Rattle.tally.specs.Total.{order_total};
 
 use crate::rules::{Place, Placed};
 use ordered::SortKey;
@@ -57,7 +58,7 @@ pub trait Gather<X, K> {
 }
 
 fn compare<K: SortKey>(a: K, b: K) -> Ordering
-    ensures { result ≡ order (rank a) (rank b) }
+    ensures { result ≡ order (K.SortKey.rank a) (K.SortKey.rank b) }
 {
     if a.precedes(b) {
         Ordering::Less
@@ -68,8 +69,11 @@ fn compare<K: SortKey>(a: K, b: K) -> Ordering
     }
 }
 
+// Effects go by their keys.
 impl<K: SortKey> PartialEq for Effect<K> {
-    ghost laws = { Keys.partial_equiv_from_equiv (Prim.search (comparing, rules)) };
+    ghost eq = { eq_by_cmp (on (λ e. K.SortKey.rank e.key) order) };
+
+    ghost laws = { partial_equiv_from_equiv (eq_by_cmp_equiv (on_total (λ e. K.SortKey.rank e.key) order_total)) };
 
     fn eq(&self, other: &Effect<K>) -> bool {
         compare(self.key, other.key).is_eq()
@@ -77,26 +81,27 @@ impl<K: SortKey> PartialEq for Effect<K> {
 }
 
 impl<K: SortKey> Eq for Effect<K> {
-    ghost laws = { Prim.search (comparing, rules) };
+    ghost laws = { eq_by_cmp_equiv (on_total (λ e. K.SortKey.rank e.key) order_total) };
 }
 
 impl<K: SortKey> PartialOrd for Effect<K> {
-    ghost laws = { Prim.search (comparing, rules) };
+    ghost partial_cmp = { as_partial_cmp (on (λ e. K.SortKey.rank e.key) order) };
+
+    ghost laws = { partial_order_from_total (on_total (λ e. K.SortKey.rank e.key) order_total) };
 
     fn partial_cmp(&self, other: &Effect<K>) -> Option<Ordering> {
         Some(compare(self.key, other.key))
     }
 }
 
-// Effects go by their keys.
 impl<K: SortKey> Ord for Effect<K> {
-    ghost cmp = { λ a b. order (K.SortKey.rank a.key) (K.SortKey.rank b.key) };
+    ghost cmp = { on (λ e. K.SortKey.rank e.key) order };
 
-    ghost total = { Prim.search (comparing, rules) };
+    ghost total = { on_total (λ e. K.SortKey.rank e.key) order_total };
 
-    ghost matches_partial_cmp = { Prim.search (comparing, rules) };
+    ghost matches_partial_cmp = { λ _ _. refl };
 
-    ghost matches_eq = { Prim.search (comparing, rules) };
+    ghost matches_eq = { λ _ _. refl };
 
     fn cmp(&self, other: &Effect<K>) -> Ordering {
         compare(self.key, other.key)
@@ -137,7 +142,7 @@ fn collect<X: Copy, K: SortKey, G: Gather<X, K>>(from: &G, xs: &[X], out: &mut [
 fn add<K: SortKey>(to: &mut [Net<K>], n: usize, e: Effect<K>) -> usize
     requires room { n < length to.old }
     requires small { All Small (take n to.old) }
-    ensures nets { take result to.new ≡ added rank (take n to.old) e }
+    ensures nets { take result to.new ≡ added K.SortKey.rank (take n to.old) e }
     ensures most { result ≤ n + 1 }
     ensures fits { (e.plus < 2 ^ 64) × (e.minus < 2 ^ 64) }
 {
@@ -164,9 +169,9 @@ fn add<K: SortKey>(to: &mut [Net<K>], n: usize, e: Effect<K>) -> usize
 fn merge<K: SortKey>(from: &[Effect<K>], to: &mut [Net<K>]) -> usize
     requires room { length from.now ≤ length to.old }
     requires few { length from.now < 2 ^ 32 }
-    requires sorted { IsSortedWithin (λ x y. lower (rank x.key) (rank y.key)) from.now 0 (length from.now) }
+    requires sorted { IsSortedWithin (λ x y. lower (K.SortKey.rank x.key) (K.SortKey.rank y.key)) from.now 0 (length from.now) }
     ensures within { result ≤ length from.now }
-    ensures tallied { Tallied rank from.now (take result to.new) }
+    ensures tallied { Tallied K.SortKey.rank from.now (take result to.new) }
     ensures small { All Small (take result to.new) }
 {
     let mut n: usize = 0;
@@ -181,10 +186,10 @@ fn tally<K: SortKey>(from: &mut [Effect<K>], to: &mut [Net<K>]) -> usize
     requires room { length from.old ≤ length to.old }
     requires few { length from.old < 2 ^ 32 }
     ensures within { result ≤ length from.old }
-    ensures tallied { Tallied rank from.old (take result to.new) }
+    ensures tallied { Tallied K.SortKey.rank from.old (take result to.new) }
     ensures small { All Small (take result to.new) }
 {
-    from.sort();
+    from.sort_unstable();
     merge(from, to)
 }
 
@@ -207,8 +212,8 @@ pub fn sums<X: Copy, K: SortKey, G: Gather<X, K>>(
 
 // The net under a key, or an empty one, where the keys rise. By halving.
 pub fn look_up<K: SortKey>(nets: &[Net<K>], key: K) -> Net<K>
-    ensures plus { Rising (λ n. rank n.key) nets.now → result.plus ≡ under (λ n. rank n.key) (λ n. n.plus) nets.now (rank key) }
-    ensures minus { Rising (λ n. rank n.key) nets.now → result.minus ≡ under (λ n. rank n.key) (λ n. n.minus) nets.now (rank key) }
+    ensures plus { Rising (λ n. K.SortKey.rank n.key) nets.now → result.plus ≡ under (λ n. K.SortKey.rank n.key) (λ n. n.plus) nets.now (K.SortKey.rank key) }
+    ensures minus { Rising (λ n. K.SortKey.rank n.key) nets.now → result.minus ≡ under (λ n. K.SortKey.rank n.key) (λ n. n.minus) nets.now (K.SortKey.rank key) }
     ensures small { All Small nets.now → Small result }
 {
     let mut low = 0;

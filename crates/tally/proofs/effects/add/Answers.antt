@@ -1,6 +1,5 @@
-use Rattle.std.proofs.Common.{◌≡◌, ◌-◌, ◌<◌, ◌≤◌, true, length, get_or, take, sym, ◌∙◌, subst, arith}
+use Rattle.std.proofs.Common.{◌-◌, ◌<◌, length, take, sym, ◌∙◌, subst, arith}
 use Rattle.std.proofs.lemmas.List.{get_or-take, length-take}
-use Rattle.std.specs.List.{AllByRecursion as All}
 use Rattle.std.proofs.ByRecursion.{All-get_or}
 use Rattle.tally.specs.Tally.{Small}
 use Rattle.tally.proofs.Merge.{put_merged, put_new, put_first}
@@ -9,7 +8,7 @@ use Rattle.tally.proofs.effects.add.Goals as goal
 use Rattle.tally.proofs.effects.add.Goals.{then-n-gt0+else-not-precedes, else-n-gt0}
 
 -- the last entry is small
-small : (g : given.Over) (c : goal.After-to·1 g) → Small c.index-to-n.result
+small : (g : given.Over) (c : goal.After-to-1 g) → Small c.index-to-n.result
 small g c =
     let to = c.args.to.now in
     let m : c.args.n - 1 < length (take c.args.n to) = simp length-take (omega arith) in

@@ -1,8 +1,8 @@
-use Rattle.std.proofs.Common.{◌≡◌, List, ◌++◌, get_or, take, sym, ap, ◌∙◌, subst, arith}
+use Rattle.std.proofs.Common.{◌≡◌, List, ◌++◌, ap, ◌∙◌, arith}
 use Rattle.tally.specs.declared.effects.Effect.{Effect}
 use Rattle.std.specs.List.{flat_map}
 use Rattle.std.specs.Option.{option_to_list}
-use Rattle.std.proofs.lemmas.List.{take_more, take_all, append_assoc, flat_map_more}
+use Rattle.std.proofs.lemmas.List.{take_all}
 use Rattle.tally.proofs.Nets.{gathered}
 use Rattle.tally.proofs.effects.collect.Goals as goal
 

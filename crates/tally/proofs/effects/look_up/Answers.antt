@@ -1,11 +1,10 @@
-use Rattle.std.proofs.Common.{◌≡◌, ℕ, ◌+◌, ◌-◌, ◌/◌, ◌<◌, ◌≤◌, true, false, List, length, sym, ◌∙◌, subst, arith, lit<}
+use Rattle.std.proofs.Common.{◌≡◌, ℕ, ◌+◌, ◌-◌, ◌/◌, sym, ◌∙◌, subst, arith, lit<}
 use Rattle.std.proofs.ByRecursion.{All-get_or}
 use Rattle.terms.specs.Order.{Rising, under}
 use Rattle.ordered.proofs.Windows.{window_start, window_low, window_high}
 use Rattle.tally.specs.declared.effects.Net.{Net}
 use Rattle.tally.specs.Tally.{Small}
 use Rattle.tally.proofs.Finds.{found_at, found_gap, found_end}
-use Rattle.tally.proofs.effects.look_up.Given as given
 use Rattle.tally.proofs.effects.look_up.Goals as goal
 use Rattle.tally.proofs.effects.look_up.Goals.{then-low-nets+else-not-precedes, else-low-nets}
 

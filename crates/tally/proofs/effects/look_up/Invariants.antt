@@ -1,4 +1,4 @@
-use Rattle.std.proofs.Common.{ℕ, ◌-◌, ◌<◌, ◌≤◌, length}
+use Rattle.std.proofs.Common.{◌-◌, ◌≤◌, length}
 use Rattle.terms.specs.Order.{Rising}
 use Rattle.ordered.proofs.Windows.{Window}
 use Rattle.tally.proofs.effects.look_up.Given as goal

@@ -1,4 +1,4 @@
-use Rattle.std.proofs.Common.{◌≡◌, ◌≤◌, length, take}
+use Rattle.std.proofs.Common.{◌≤◌, take}
 use Rattle.std.specs.List.{AllByRecursion as All}
 use Rattle.tally.specs.Tally.{Tallied, Ahead}
 use Rattle.tally.proofs.effects.merge.Given as goal

@@ -1,4 +1,4 @@
-use Rattle.std.proofs.Common.{◌≡◌, ◌+◌, take, sym, ◌∙◌, subst}
+use Rattle.std.proofs.Common.{◌+◌, take, sym, ◌∙◌, subst}
 use Rattle.std.proofs.lemmas.List.{take_all}
 use Rattle.tally.specs.Least.{LeastPlace}
 use Rattle.tally.proofs.Places.{least_more_no, least_more_yes}

@@ -1,4 +1,4 @@
-use Rattle.std.proofs.Common.{◌≡◌, true, false, [], ◌∷◌, refl, subst, ap₂}
+use Rattle.std.proofs.Common.{◌≡◌, false, [], ◌∷◌, refl, subst, ap₂}
 use Rattle.std.proofs.lemmas.Bool.{both_ways}
 use Rattle.std.proofs.ByRecursion.{all-has}
 use Rattle.terms.specs.Order.{lower}
