@@ -1,19 +1,19 @@
 -- What a block in the making says of the commands so far, and that one command more keeps it. Assumes nothing.
-use Rattle.std.proofs.Common.{◌≡◌, ℕ, ◌+◌, ◌-◌, ◌*◌, ◌<◌, ◌≤◌, min, Bool, true, false, cond, not, ◌&&◌, eqb, ltb, leb, List, [], ◌∷◌, ◌++◌, length, take, set, sym, refl, ap, ◌∙◌, subst, arith}
+use Rattle.std.proofs.Common.{◌≡◌, ℕ, ◌+◌, ◌*◌, ◌<◌, ◌≤◌, Bool, true, false, cond, ltb, List, [], ◌∷◌, ◌++◌, length, take, set, sym, refl, ap, ◌∙◌, subst, arith}
 use Rattle.std.specs.List.{flat_map}
-use Rattle.std.proofs.lemmas.List.{append-nil, take_more_set, length-set, length-take-le}
-use Rattle.std.proofs.lemmas.Bool.{false≢true, eqb-true, ltb-true, ltb-false, cases_Bool}
+use Rattle.std.proofs.lemmas.List.{append-nil, take_more_set, length-set}
+use Rattle.std.proofs.lemmas.Bool.{false≢true, eqb-true, ltb-true, ltb-false}
 use Rattle.std.proofs.lemmas.Bool.Decides.{nat_tests}
 use Rattle.terms.specs.declared.Volume.{Volume}
 use Rattle.terms.specs.declared.Transaction.{Transaction}
 use Rattle.terms.specs.declared.Grant.{Grant}
 use Rattle.terms.specs.Order.{lower}
-use Rattle.terms.specs.Ranges.{is_pair, is_asset, is_price, is_amount}
+use Rattle.terms.specs.Ranges.{is_pair}
 use Rattle.blocks.specs.declared.drafted.Draft.{Draft}
 use Rattle.blocks.specs.declared.stage.Stage.{Stage}
 use Rattle.blocks.specs.declared.stage.Stage.TheVariants.{Start, Price, FirstVolume, VolumeAbove, Transactions, Grants}
 use Rattle.commands.specs.Format.{Cmd, begin, price, volume, transaction, found, end, fit}
-use Rattle.blocks.specs.Readable.{heights, parents, prices, volumes, transactions, pair}
+use Rattle.blocks.specs.Readable.{heights, parents, prices, volumes, transactions}
 use Rattle.blocks.specs.Stages.{admits, afterwards}
 use Rattle.blocks.specs.Drafts.{added, Room}
 use Rattle.blocks.proofs.Steps.{joined_push}

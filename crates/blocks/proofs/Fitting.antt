@@ -1,9 +1,9 @@
 -- What is known of every readable block and founding. Assumes nothing.
-use Rattle.std.proofs.Common.{◌≡◌, ℕ, ◌+◌, ◌-◌, ◌*◌, ◌<◌, ◌≤◌, min, Bool, true, false, cond, not, ◌&&◌, eqb, ltb, leb, List, [], ◌∷◌, ◌++◌, length, get_or, take, drop, sym, refl, ap, ◌∙◌, subst, arith}
-use Rattle.std.specs.List.{flat_map, AllByRecursion as All, between}
+use Rattle.std.proofs.Common.{◌≡◌, ℕ, ◌+◌, ◌*◌, ◌<◌, ◌≤◌, Bool, true, false, cond, ◌&&◌, eqb, ltb, leb, List, [], ◌∷◌, ◌++◌, length, get_or, sym, refl, ap, ◌∙◌, subst, arith}
+use Rattle.std.specs.List.{flat_map, AllByRecursion as All}
 use Rattle.std.proofs.lemmas.List.{append-nil, length-append, length-take, length-drop}
 use Rattle.std.proofs.ByRecursion.{All-push}
-use Rattle.std.proofs.lemmas.Bool.{cond-true, false≢true, eqb-true, ltb-true, ltb-false, le-leb, eq-eqb, cases_Bool}
+use Rattle.std.proofs.lemmas.Bool.{cond-true, false≢true, eqb-true, ltb-true, ltb-false, le-leb, eq-eqb}
 use Rattle.std.proofs.lemmas.Bool.Decides.{nat_tests}
 use Rattle.terms.specs.declared.Volume.{Volume}
 use Rattle.terms.specs.declared.Grant.{Grant}
@@ -11,7 +11,7 @@ use Rattle.terms.specs.Order.{lower}
 use Rattle.terms.specs.Ranges.{every, is_pair, is_price, is_word, fit_volume, fit_transaction, fit_grant}
 use Rattle.terms.specs.Holdings.{rising}
 use Rattle.commands.specs.Format.{Cmd, begin, price, volume, transaction, found, end, begin_at, price_at, volume_at, create_at, pay_at, place_at, cancel_at, found_at, command_at, width_at, whole, fit}
-use Rattle.blocks.specs.Readable.{Block, Readable, Founds, Good, Stand, InTurn, follows, is_begin, is_price_of, is_volume_above, is_transaction, is_grant, pair, heights, parents, prices, volumes, transactions, grants, fit_block, fit_grants}
+use Rattle.blocks.specs.Readable.{Block, Readable, Founds, Good, Stand, InTurn, follows, is_begin, is_price_of, is_volume_above, is_transaction, pair, heights, parents, prices, volumes, transactions, grants, fit_block, fit_grants}
 use Rattle.commands.proofs.Cuts.{whole_moves, wide, width_is}
 use Rattle.blocks.proofs.Steps.{joined_push}
 use Rattle.blocks.proofs.Drafting.{rank_of, rank_bound, rank_rises}

@@ -2,13 +2,12 @@
 use Rattle.std.proofs.Common.{◌≡◌, ℕ, zero, suc, ◌+◌, ◌<◌, ◌≤◌, Bool, true, false, cond, not, ◌&&◌, ltb, leb, ◌⊎◌, List, [], ◌∷◌, ◌++◌, length, sym, refl, ap, ◌∙◌, subst, inl, inr, ⊎_elim, arith}
 use Rattle.std.specs.List.{HoldsAt, ContainsAt as Has, flat_map, AllByRecursion as All}
 use Rattle.std.proofs.lemmas.List.{append-nil, append_assoc, length-append, same_from_push}
-use Rattle.std.proofs.ByRecursion.{has_push, has_append_left}
-use Rattle.std.proofs.lemmas.Bool.{false≢true, both_ways, le-ltb, lt-ltb}
+use Rattle.std.proofs.ByRecursion.{has_push}
+use Rattle.std.proofs.lemmas.Bool.{false≢true, both_ways}
 use Rattle.std.proofs.lemmas.Bool.Decides.{nat_tests}
 use Rattle.terms.specs.declared.Fault.{Fault}
-use Rattle.terms.specs.declared.Grant.{Grant}
 use Rattle.commands.specs.Format.{Cmd, end, command_at, width_at, lettered, whole, fit}
-use Rattle.blocks.specs.Readable.{Block, Readable, Founds, Refused, Stops, Good, Stand, InTurn, after, follows, is_begin, is_grant, Unended, Flaw, number, Flawed, heights, parents, prices, volumes, transactions, grants}
+use Rattle.blocks.specs.Readable.{Block, Readable, Refused, Stops, Good, Stand, InTurn, after, follows, is_begin, is_grant, Unended, Flaw, number, Flawed, heights, parents, prices, volumes, transactions, grants}
 use Rattle.blocks.specs.Readable.Flaw.{missing, unknown, misplaced, unfit, excess, trailing}
 use Rattle.blocks.specs.Laws.{ReadOneWay}
 use Rattle.commands.proofs.Cuts.{whole_moves}

@@ -1,12 +1,11 @@
 -- The walk over the commands of a block: what it keeps, what a further command adds, and where it ends. Assumes nothing.
-use Rattle.std.proofs.Common.{◌≡◌, ℕ, ◌+◌, ◌-◌, ◌*◌, ◌<◌, ◌≤◌, Bool, true, false, cond, not, ◌&&◌, eqb, ltb, leb, ◌⊎◌, List, [], ◌∷◌, ◌++◌, length, take, set, sym, refl, ap, ◌∙◌, subst, inl, inr, ⊎_elim, arith, Bor}
-use Rattle.std.specs.List.{ContainsAt as Has, flat_map, AllByRecursion as All}
+use Rattle.std.proofs.Common.{◌≡◌, ℕ, ◌+◌, ◌*◌, ◌<◌, ◌≤◌, Bool, true, false, cond, not, ◌&&◌, ltb, leb, ◌⊎◌, List, [], ◌∷◌, ◌++◌, length, take, set, sym, refl, ap, ◌∙◌, subst, inl, inr, arith, Bor}
+use Rattle.std.specs.List.{flat_map}
 use Rattle.std.proofs.lemmas.List.{length-append, length-take-le, length-set, take_all, take_more_set}
 use Rattle.std.proofs.ByRecursion.{All-push, has_push}
-use Rattle.std.proofs.lemmas.Bool.{cases_Bool, false≢true}
+use Rattle.std.proofs.lemmas.Bool.{false≢true}
 use Rattle.std.proofs.lemmas.Bool.Decides.{nat_tests}
 use Rattle.terms.specs.declared.Fault.{Fault}
-use Rattle.terms.specs.declared.Volume.{Volume}
 use Rattle.terms.specs.declared.Grant.{Grant}
 use Rattle.commands.specs.declared.command.Command.{Command}
 use Rattle.commands.specs.declared.command.Command.TheVariants as code
@@ -14,12 +13,12 @@ use Rattle.commands.specs.Shown.{shown}
 use Rattle.blocks.specs.declared.drafted.Draft.{Draft}
 use Rattle.blocks.specs.declared.stage.Stage.{Stage}
 use Rattle.blocks.specs.declared.stage.Stage.TheVariants.{Start, Price, FirstVolume, VolumeAbove, Transactions, Grants}
-use Rattle.commands.specs.Format.{Cmd, begin, price, volume, transaction, found, end, Outcome, got, refused, cut, command_at, width_at, lettered, whole, fit}
-use Rattle.blocks.specs.Readable.{Good, Stand, InTurn, after, follows, Unended, Flaw, number, Flawed, Stops, is_begin, is_price_of, is_volume_above, is_grant, transactions, grants, heights, parents, Readable, Founds}
+use Rattle.commands.specs.Format.{Cmd, begin, price, volume, transaction, found, end, got, refused, command_at, width_at, lettered, whole, fit}
+use Rattle.blocks.specs.Readable.{Good, Stand, after, follows, Unended, Flaw, number, Flawed, Stops, is_begin, is_price_of, is_volume_above, is_grant, transactions, grants, heights, parents, Readable, Founds}
 use Rattle.blocks.specs.Readable.Flaw.{missing, unknown, misplaced, unfit, excess, trailing}
 use Rattle.blocks.specs.Stages.{admits, afterwards, stepped, taken}
-use Rattle.blocks.specs.Drafts.{added, spoken, blank, Room}
-use Rattle.commands.proofs.Cuts.{stand_push, unended_push, Got, cut_got, Cut, cut_refused, whole_moves, wide, width_is, never}
+use Rattle.blocks.specs.Drafts.{added, spoken}
+use Rattle.commands.proofs.Cuts.{stand_push, unended_push, whole_moves, wide, width_is, never}
 use Rattle.blocks.proofs.Steps.{joined_push, turn_push, after_push}
 use Rattle.blocks.proofs.Drafting.{Says, says_more, Proper, Begun, priced_at}
 

@@ -1,6 +1,5 @@
 -- A block in the making. Assumes nothing.
-use Rattle.std.specs.Prelude.{ℕ, ◌+◌, ◌<◌, List, take, replicate, slice_set}
-use Rattle.terms.specs.declared.Volume.{Volume}
+use Rattle.std.specs.Prelude.{◌+◌, ◌<◌, take, replicate, slice_set}
 use Rattle.terms.specs.declared.Transaction.{Transaction}
 use Rattle.terms.specs.declared.Action.TheVariants.{Create}
 use Rattle.blocks.specs.declared.drafted.Draft.{Draft}

@@ -1,5 +1,5 @@
 -- Which bytes are a readable block or founding, what they say, and which fault any other bytes have. Assumes nothing.
-use Rattle.std.specs.Prelude.{◌≡◌, ℕ, ◌+◌, ◌<◌, ◌≤◌, Bool, true, false, cond, not, ◌&&◌, ◌||◌, ◌⊎◌, List, [], ◌∷◌, ◌++◌, length, ◌==◌, nat_le, nat_lt}
+use Rattle.std.specs.Prelude.{◌≡◌, ℕ, ◌+◌, ◌<◌, ◌≤◌, Bool, true, false, cond, ◌&&◌, ◌⊎◌, List, [], ◌∷◌, ◌++◌, length, ◌==◌, nat_le, nat_lt}
 use Rattle.std.specs.List.{ContainsAt as Has, flat_map, AllByRecursion as All}
 use Rattle.terms.specs.declared.Volume.{Volume}
 use Rattle.terms.specs.declared.Transaction.{Transaction}
@@ -9,7 +9,7 @@ use Rattle.terms.specs.Order.{lower}
 use Rattle.terms.specs.Ranges.{every, is_price, is_word, fit_volume, fit_transaction, fit_grant}
 use Rattle.terms.specs.Holdings.{rising}
 pub use Rattle.commands.specs.Extent.{Stand, Unended}
-use Rattle.commands.specs.Format.{Cmd, begin, price, volume, transaction, found, end, command_at, width_at, lettered, whole, fit}
+use Rattle.commands.specs.Format.{Cmd, begin, price, volume, transaction, found, end, command_at, lettered, whole, fit}
 
 -- What a block says.
 pub record Block : Type 0 where

@@ -1,10 +1,9 @@
 -- Commands that are cut from the bytes one after another. Assumes nothing.
-use Rattle.std.proofs.Common.{◌≡◌, ℕ, ◌+◌, ◌-◌, ◌<◌, ◌≤◌, Bool, true, false, cond, not, ◌&&◌, eqb, ltb, leb, ◌⊎◌, List, [], ◌∷◌, ◌++◌, length, get_or, sym, refl, ap, ◌∙◌, subst, inl, inr, ⊎_elim, arith}
-use Rattle.std.specs.List.{ContainsAt as Has}
+use Rattle.std.proofs.Common.{◌≡◌, ℕ, ◌+◌, ◌<◌, ◌≤◌, Bool, true, false, cond, not, ◌&&◌, eqb, ltb, leb, List, [], ◌∷◌, ◌++◌, length, get_or, sym, refl, ap, ◌∙◌, subst, ⊎_elim, arith}
 use Rattle.std.proofs.ByRecursion.{has_push_cases}
 use Rattle.std.proofs.lemmas.Bool.{cond-true, cond-false}
 use Rattle.std.proofs.lemmas.Bool.Decides.{nat_tests}
-use Rattle.commands.specs.Format.{Cmd, begin, price, volume, transaction, found, end, begin_at, price_at, volume_at, create_at, pay_at, place_at, cancel_at, found_at, Outcome, got, refused, cut, Span, upto, broken, skipped, width, command_at, width_at, lettered, whole, fit}
+use Rattle.commands.specs.Format.{Cmd, begin, price, volume, transaction, found, end, begin_at, price_at, volume_at, create_at, pay_at, place_at, cancel_at, found_at, got, refused, cut, upto, broken, skipped, width, command_at, width_at, lettered, whole}
 use Rattle.commands.specs.Extent.{Stand, Unended, Endless}
 use Rattle.commands.specs.Shown.{shown}
 use Rattle.commands.specs.declared.command.Command.{Command}

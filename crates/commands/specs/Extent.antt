@@ -1,5 +1,5 @@
 -- Commands that stand one after another in the bytes, and where the first end is. Assumes nothing.
-use Rattle.std.specs.Prelude.{◌≡◌, ℕ, ◌+◌, ◌≤◌, Bool, true, false, cond, not, ◌&&◌, List, [], ◌∷◌, length, nat_lt}
+use Rattle.std.specs.Prelude.{◌≡◌, ℕ, ◌+◌, ◌≤◌, true, false, cond, not, ◌&&◌, List, [], ◌∷◌, length, nat_lt}
 use Rattle.std.specs.List.{ContainsAt as Has}
 use Rattle.terms.specs.declared.Fault.{Fault}
 use Rattle.commands.specs.Format.{Cmd, end, command_at, width_at, lettered, whole}

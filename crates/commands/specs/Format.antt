@@ -1,5 +1,5 @@
 -- The bytes of blocks and foundings: one command, its letter, its width and its operands. Assumes nothing.
-use Rattle.std.specs.Prelude.{ℕ, zero, suc, ◌+◌, Bool, true, false, cond, not, ◌&&◌, List, [], ◌∷◌, length, ◌==◌, nat_le, nat_lt, slice_index, slice_index_or}
+use Rattle.std.specs.Prelude.{ℕ, ◌+◌, Bool, true, cond, not, ◌&&◌, List, [], ◌∷◌, length, ◌==◌, nat_le, nat_lt, slice_index, slice_index_or}
 use Rattle.std.specs.List.{between}
 use Rattle.terms.specs.declared.Volume.{Volume}
 use Rattle.terms.specs.declared.Transaction.{Transaction}

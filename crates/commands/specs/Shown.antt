@@ -1,8 +1,6 @@
 -- What the reader's types say, in the words of the format. Assumes nothing.
-use Rattle.std.specs.Prelude.{ℕ, List, [], Ok, Err, Result}
+use Rattle.std.specs.Prelude.{ℕ, [], Ok, Err, Result}
 use Rattle.terms.specs.declared.Fault.{Fault}
-use Rattle.terms.specs.declared.Transaction.{Transaction}
-use Rattle.terms.specs.declared.Action.{Action}
 use Rattle.terms.specs.declared.Action.TheVariants as act
 use Rattle.commands.specs.declared.command.Command.{Command}
 use Rattle.commands.specs.declared.command.Command.TheVariants.{Begin, Price, Volume, Create, Pay, Place, Cancel, Found, End}

@@ -11,7 +11,7 @@ use Rattle.terms.specs.Holdings.{Store, Book}
 use Rattle.blocks.specs.Readable.{Block, Readable, Founds, Refused, is_begin, is_grant}
 use Rattle.blocks.proofs.Laws.{read_one_way}
 use Rattle.exchange.specs.State.{State, most}
-use Rattle.exchange.specs.Faults.{fault, Verdict, FoundingVerdict}
+use Rattle.exchange.specs.Faults.{Verdict, FoundingVerdict}
 use Rattle.exchange.specs.Life.{Event, Answer, Life, life, birth, Holds, Step, Runs, Judged, SayAlike, Reads, ReadsFounding, Rules, RulesCheck, RulesFounding, AfterFounding, AfterCheck, AfterCommit, held_after, or_refused, fill_of, is_empty, Rearranged, SameBlock, SameFounding, Fair}
 use Rattle.exchange.specs.Life.Event.{found, check, fill, commit, reject, ask}
 use Rattle.exchange.specs.Life.Answer.{done, refused, checked, filled}

@@ -1,6 +1,5 @@
-use Rattle.std.proofs.Common.{◌≡◌, ◌/◌, ◌%◌, [], ◌∷◌, ◌++◌, sym, ap, ◌∙◌, subst, arith}
+use Rattle.std.proofs.Common.{◌≡◌, ◌/◌, ◌%◌, [], ◌∷◌, ◌++◌, ap, ◌∙◌, subst, arith}
 use Rattle.terms.specs.Bytes.{bytes_of}
-use Rattle.exchange.specs.Commit.{key_bytes}
 use Rattle.sha256.specs.Streaming.{Holds}
 use Rattle.state_digest.proofs.Pieces.{four_bytes, eight_bytes, five, put_together}
 use Rattle.state_digest.proofs.add_offer.Goals as goal

@@ -6,13 +6,11 @@ use Rattle.terms.specs.declared.Offer.{Offer}
 use Rattle.terms.specs.Bytes.{bytes_of}
 use Rattle.terms.specs.Order.{place, words, under}
 use Rattle.terms.specs.Ranges.{is_pair, is_number, is_word, is_amount, fit_key, fit_offer}
-use Rattle.terms.specs.Holdings.{amount_at}
 use Rattle.terms.proofs.Order.{key_is}
 use Rattle.ordered.proofs.Rising.{under_each}
 use Rattle.offers.proofs.Sound.{book_parts}
 use Rattle.sha256.specs.Streaming.{Holds}
 use Rattle.exchange.specs.Commit.{offer_bytes, key_bytes}
-use Rattle.state_digest.specs.Rest.{rest}
 use Rattle.state_digest.proofs.Rests.{Next, above_zeros, rest_all, rest_end, rest_next, moved, fewer, ended}
 use Rattle.state_digest.proofs.add_offers.Goals as goal
 

@@ -2,7 +2,7 @@ use Rattle.std.proofs.Common.{◌≡◌, [], ◌∷◌, ◌++◌, length, sym, a
 use Rattle.std.specs.List.{flat_map}
 use Rattle.terms.specs.Bytes.{bytes_of}
 use Rattle.sha256.specs.Digest.{sha256}
-use Rattle.exchange.specs.Commit.{account_bytes, offer_bytes, state_bytes}
+use Rattle.exchange.specs.Commit.{account_bytes, offer_bytes}
 use Rattle.state_digest.proofs.Pieces.{four_bytes, seven}
 use Rattle.state_digest.proofs.state_digest.Goals as goal
 

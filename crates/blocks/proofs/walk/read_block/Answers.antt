@@ -1,9 +1,9 @@
-use Rattle.std.proofs.Common.{◌≡◌, ℕ, ◌+◌, ◌<◌, ◌≤◌, List, [], ◌∷◌, ◌++◌, length, sym, ap, ◌∙◌, subst, inl, inr, arith}
+use Rattle.std.proofs.Common.{◌≡◌, ℕ, ◌≤◌, List, [], ◌∷◌, ◌++◌, length, sym, ◌∙◌, subst, inr, arith}
 use Rattle.std.proofs.lemmas.Result.{err_from_is_err_and}
-use Rattle.commands.specs.Format.{Cmd, end, got}
+use Rattle.commands.specs.Format.{Cmd, got}
 use Rattle.commands.specs.Shown.{shown}
 use Rattle.blocks.specs.Stages.{admits, afterwards, stepped}
-use Rattle.blocks.specs.Drafts.{added, spoken}
+use Rattle.blocks.specs.Drafts.{spoken}
 use Rattle.commands.specs.declared.command.Command.{Command}
 use Rattle.commands.specs.declared.command.Command.TheVariants.{End}
 use Rattle.blocks.specs.declared.drafted.Draft.{Draft}

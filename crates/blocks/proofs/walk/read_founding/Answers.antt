@@ -1,10 +1,10 @@
-use Rattle.std.proofs.Common.{◌≡◌, ℕ, ◌+◌, ◌<◌, ◌≤◌, List, [], ◌∷◌, ◌++◌, length, take, sym, ap, ◌∙◌, subst, inl, inr, arith, Bor}
+use Rattle.std.proofs.Common.{◌≡◌, ℕ, ◌≤◌, List, [], ◌∷◌, ◌++◌, length, take, sym, ap, ◌∙◌, subst, inr, arith, Bor}
 use Rattle.std.proofs.lemmas.Result.{err_from_is_err_and}
 use Rattle.terms.specs.declared.Grant.{Grant}
 use Rattle.commands.specs.declared.command.Command.{Command}
 use Rattle.commands.specs.declared.command.Command.TheVariants.{Found, End}
 use Rattle.blocks.specs.declared.stage.Stage.TheVariants.{Grants}
-use Rattle.commands.specs.Format.{Cmd, end, found, got, balances}
+use Rattle.commands.specs.Format.{Cmd, found, got, balances}
 use Rattle.commands.specs.Shown.{shown}
 use Rattle.blocks.specs.Stages.{admits, stepped}
 use Rattle.blocks.specs.Readable.{Founds, Stops, is_grant}

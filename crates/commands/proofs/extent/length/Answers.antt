@@ -1,7 +1,7 @@
-use Rattle.std.proofs.Common.{◌≡◌, ◌+◌, [], ◌∷◌, ◌++◌, sym, refl, ap, ◌∙◌, subst, arith}
+use Rattle.std.proofs.Common.{◌+◌, [], ◌∷◌, ◌++◌, sym, refl, ap, ◌∙◌, subst, arith}
 use Rattle.std.proofs.lemmas.Result.{err_from_is_err_and}
 use Rattle.commands.specs.Format.{command_at}
-use Rattle.commands.specs.Extent.{Stand, Endless}
+use Rattle.commands.specs.Extent.{Stand}
 use Rattle.commands.proofs.Cuts.{skip_upto, letter_end, end_letter, stand_push, unended_push, whole_moves, end_width, endless}
 use Rattle.commands.proofs.extent.length.Goals as goal
 

@@ -1,4 +1,4 @@
-use Rattle.std.proofs.Common.{◌+◌, ◌-◌, ◌≤◌, ap, ◌∙◌, arith}
+use Rattle.std.proofs.Common.{◌+◌, ◌-◌, ap, ◌∙◌, arith}
 use Rattle.commands.specs.Format.{balances}
 use Rattle.commands.proofs.Fields.{balances_part}
 use Rattle.commands.proofs.parser.found.Goals as goal

@@ -1,4 +1,3 @@
-use Rattle.std.proofs.Common.{◌≡◌}
 use Rattle.std.proofs.lemmas.Result.{err_from_is_err_and}
 use Rattle.commands.proofs.Cuts.{cut_upto, cut_broken}
 use Rattle.commands.proofs.parser.parse.Goals as goal
