@@ -1,15 +1,15 @@
 -- Slots, order and buckets of a hashed store: what a probe's answer says of the accounts, and what an opening and a
 -- write leave. Assumes nothing.
-use Rattle.std.proofs.Common.{◌≡◌, ℕ, zero, suc, ◌+◌, ◌<◌, ◌≤◌, Bool, true, false, cond, ◌&&◌, eqb, ltb, leb, ◌⊎◌, List, [], ◌∷◌, map, length, get_or, take, drop, set, sum_by, sym, refl, ap, ◌∙◌, subst, inl, inr, arith}
+use Rattle.std.proofs.Common.{◌≡◌, ℕ, zero, suc, ◌+◌, ◌<◌, ◌≤◌, Bool, true, false, cond, eqb, ltb, List, [], ◌∷◌, map, length, get_or, take, drop, set, sum_by, sym, refl, ap, ◌∙◌, subst, inl, inr, arith}
 use Rattle.std.specs.List.{insert, AllByRecursion as All}
 use Rattle.std.proofs.lemmas.List.{length-map, length-set, length-take-le, get_or-map, get_or_default, get_or-set_same, get_or-set_other, get_or-take, take-set-le}
 use Rattle.std.proofs.lemmas.List.Sums.{sum_by-cons, sum_by-append, sum_by-take-drop, sum_by_more, sum_by-set}
 use Rattle.std.proofs.ByRecursion.{All-weaker, All-get_or, All-take, All-drop}
-use Rattle.std.proofs.lemmas.Bool.{cases_Bool, cases_eq, cases_lt, cond-true, cond-false, eq-eqb, ne_eqb, eqb-true, ltb-true, lt-ltb, le-leb, and_parts, and_from, both_ways, true≢false}
+use Rattle.std.proofs.lemmas.Bool.{cases_Bool, cases_eq, cond-true, cond-false, eq-eqb, ne_eqb, eqb-true, ltb-true, lt-ltb, and_parts, and_from, both_ways, true≢false}
 use Rattle.terms.specs.declared.Account.{Account}
 use Rattle.terms.specs.Order.{lower, same, Rising, name, under, above}
 use Rattle.terms.specs.Ranges.{every, fit_account}
-use Rattle.terms.specs.Holdings.{Store, standing, sound_store}
+use Rattle.terms.specs.Holdings.{standing, sound_store}
 use Rattle.ordered.specs.Places.{Gap, At}
 use Rattle.terms.proofs.Order.{irreflexive, same_is}
 use Rattle.ordered.proofs.Rising.{every_all, all_every, all_2, all_inserted, under_at, under_above, under_none}

@@ -1,5 +1,5 @@
 -- A probe starts at one of the buckets. Assumes nothing.
-use Rattle.std.proofs.Common.{ℕ, ◌*◌, ◌/◌, ◌%◌, ◌<◌, ◌≤◌, mod-lt, mul-lt-mul_of_pos_right, arith}
+use Rattle.std.proofs.Common.{ℕ, ◌*◌, ◌/◌, ◌%◌, ◌<◌, mod-lt, mul-lt-mul_of_pos_right, arith}
 use Rattle.hashed_store.specs.Probing.{start}
 
 pub scaled : (x size : ℕ) → x < 4294967296 → 0 < size → x * size / 4294967296 < size

@@ -1,5 +1,5 @@
 -- What slots and index of a hashed store mean. Assumes nothing.
-use Rattle.std.specs.Prelude.{◌≡◌, ℕ, ◌<◌, Bool, true, false, cond, ◌&&◌, List, [], ◌∷◌, map, length, replicate, Some, None, Option, ◌==◌, nat_lt, slice_index_or}
+use Rattle.std.specs.Prelude.{◌≡◌, ℕ, ◌<◌, Bool, cond, ◌&&◌, List, [], ◌∷◌, map, length, replicate, Some, None, Option, ◌==◌, nat_lt, slice_index_or}
 use Rattle.terms.specs.declared.Account.{Account}
 use Rattle.terms.specs.Order.{name, under}
 use Rattle.terms.specs.Holdings.{Store}

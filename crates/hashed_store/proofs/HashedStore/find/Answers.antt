@@ -1,6 +1,6 @@
-use Rattle.std.proofs.Common.{◌≡◌, ℕ, ◌+◌, ◌-◌, ◌<◌, ◌≤◌, [], ◌∷◌, map, length, get_or, take, sym, refl, ap, ◌∙◌, subst, arith}
+use Rattle.std.proofs.Common.{◌<◌, length, take, sym, ◌∙◌, subst, arith}
 use Rattle.std.proofs.lemmas.List.{length-take-le, get_or_default}
-use Rattle.hashed_store.specs.Index.{lying, blank, Lies}
+use Rattle.hashed_store.specs.Index.{blank, Lies}
 use Rattle.hashed_store.proofs.Links.{none_zero, none_of, held, slot_below}
 use Rattle.hashed_store.proofs.HashedStore.find.Goals as goal
 

@@ -1,6 +1,6 @@
-use Rattle.std.proofs.Common.{◌≡◌, ℕ, ◌+◌, ◌-◌, ◌*◌, ◌<◌, ◌≤◌, [], ◌∷◌, map, length, get_or, take, replicate, sym, refl, ap, ◌∙◌, subst, arith}
+use Rattle.std.proofs.Common.{◌≡◌, ◌-◌, ◌*◌, length, take, ap, arith}
 use Rattle.std.proofs.lemmas.List.{length-take-le}
-use Rattle.hashed_store.proofs.Stores.{Agrees, cleared}
+use Rattle.hashed_store.proofs.Stores.{cleared}
 use Rattle.hashed_store.proofs.HashedStore.new.Goals as goal
 
 pub invariant_of-result : goal.invariant_of-result
@@ -16,4 +16,4 @@ invariant_of-result c =
     (omega (arith, c.fill.ensures.len, n, m))
     (omega (arith, n, c.min-n.ensures))
     (omega arith) in
-    (w.fits, (w.even, (w.roomy, (w.parts.laid_all, (w.parts.linked, (w.parts.finds, (w.parts.sums, (w.parts.sound, tt))))))))
+    record { fits = w.fits; even = w.even; roomy = w.roomy; laid = w.parts.laid_all; linked = w.parts.linked; finds = w.parts.finds; sums = w.parts.sums; sound = w.parts.sound }

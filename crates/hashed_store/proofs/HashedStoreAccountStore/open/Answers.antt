@@ -1,4 +1,4 @@
-use Rattle.std.proofs.Common.{◌≡◌, ℕ, ◌+◌, ◌-◌, ◌<◌, ◌≤◌, [], ◌∷◌, map, length, get_or, take, set, Ok, Err, sym, refl, ap, ◌∙◌, subst, inl, inr, arith}
+use Rattle.std.proofs.Common.{take, set, Err, sym, refl, ap, ◌∙◌, arith}
 use Rattle.std.proofs.lemmas.List.{length-take-le, length-map}
 use Rattle.hashed_store.specs.Index.{store_of}
 use Rattle.accounts.proofs.Edits.{fresh}
@@ -45,7 +45,7 @@ invariant_of-self c =
     c.enter.new.self.slots.now c.enter.new.self.buckets.now c.enter.new.self.order.slots.now refl (omega (arith, c.len-n.ensures, (length-take-le c.args.self.now.tables.order.len c.args.self.now.tables.order.slots.now c.args.self.now.fits))) (omega arith) (omega arith)
     (omega (arith, c.len-n.ensures, (length-take-le c.args.self.now.tables.order.len c.args.self.now.tables.order.slots.now c.args.self.now.fits))) (c.in-Err.ensures (up c.args.self.now.top c.args.self.now.tables.order.len c.args.self.now.tables.slots.now c.args.self.now.tables.buckets.now (take c.args.self.now.tables.order.len c.args.self.now.tables.order.slots.now) (length-take-le c.args.self.now.tables.order.len c.args.self.now.tables.order.slots.now c.args.self.now.fits) c.args.self.now.sound c.args.self.now.laid c.args.self.now.linked)) c.in-Free.ensures.0 c.in-Free.ensures.1 c.in-Free.ensures.3
     (c.enter.ensures.slots ∙ ap (λ a. set c.args.self.now.tables.slots.now c.len-n.result a) c.new_account.ensures ∙ ap (λ k. set c.args.self.now.tables.slots.now k (fresh c.args.number)) (omega (arith, c.len-n.ensures, (length-take-le c.args.self.now.tables.order.len c.args.self.now.tables.order.slots.now c.args.self.now.fits)))) c.enter.ensures.buckets c.enter.ensures.len c.enter.ensures.fits c.enter.ensures.order in
-    (w.1.fits, (w.1.even, (w.1.roomy, (w.1.parts.laid_all, (w.1.parts.linked, (w.1.parts.finds, (w.1.parts.sums, (w.1.parts.sound, tt))))))))
+    record { fits = w.1.fits; even = w.1.even; roomy = w.1.roomy; laid = w.1.parts.laid_all; linked = w.1.parts.linked; finds = w.1.parts.finds; sums = w.1.parts.sums; sound = w.1.parts.sound }
 
 pub returns-in-Err : goal.returns-in-Err
 returns-in-Err c =

@@ -1,10 +1,10 @@
-use Rattle.std.proofs.Common.{◌≡◌, ℕ, ◌+◌, ◌-◌, ◌<◌, ◌≤◌, [], ◌∷◌, map, length, get_or, take, Ok, Err, sym, refl, ap, ◌∙◌, subst, inl, inr, arith}
+use Rattle.std.proofs.Common.{take, Err, refl, ap, ◌∙◌, inl, inr, arith}
 use Rattle.std.proofs.lemmas.List.{length-take-le}
 use Rattle.hashed_store.specs.Index.{store_of}
 use Rattle.accounts.specs.Changes.{BalanceSet}
 use Rattle.accounts.proofs.Edits.{with_balance}
 use Rattle.accounts.proofs.Replies.{balance_out, balance_made}
-use Rattle.hashed_store.proofs.Links.{all_of_it, slot_below, eight, sets_balance}
+use Rattle.hashed_store.proofs.Links.{all_of_it, slot_below, sets_balance}
 use Rattle.hashed_store.proofs.Stores.{wrote}
 use Rattle.hashed_store.proofs.HashedStoreAccountStore.set_balance.Goals as goal
 
@@ -26,7 +26,7 @@ invariant_of-self c =
     (sets_balance c.args.self.now.top c.args.self.now.tables.order.len c.args.self.now.tables.slots.now c.args.self.now.tables.buckets.now (take c.args.self.now.tables.order.len c.args.self.now.tables.order.slots.now) (length-take-le c.args.self.now.tables.order.len c.args.self.now.tables.order.slots.now c.args.self.now.fits) c.args.self.now.sound c.args.self.now.laid c.args.self.now.linked c.args.number c.in-Some.s c.in-Some.a c.in-Some.ensures c.args.asset c.args.value (omega (arith, c.args.self.now.fits, c.args.self.now.even)) (omega arith) (omega arith))
     c.write.new.self.order.len c.write.new.self.slots.now c.write.new.self.buckets.now c.write.new.self.order.slots.now
     c.write.ensures.slots c.write.ensures.buckets c.write.ensures.len c.write.ensures.order in
-    (w.1.fits, (w.1.even, (w.1.roomy, (w.1.parts.laid_all, (w.1.parts.linked, (w.1.parts.finds, (w.1.parts.sums, (w.1.parts.sound, tt))))))))
+    record { fits = w.1.fits; even = w.1.even; roomy = w.1.roomy; laid = w.1.parts.laid_all; linked = w.1.parts.linked; finds = w.1.parts.finds; sums = w.1.parts.sums; sound = w.1.parts.sound }
 
 pub returns-else-value-gt-MAX_BALANCE : goal.returns-else-value-gt-MAX_BALANCE
 returns-else-value-gt-MAX_BALANCE c =

@@ -1,4 +1,4 @@
-use Rattle.std.proofs.Common.{◌≡◌, ℕ, ◌+◌, ◌-◌, ◌<◌, ◌≤◌, [], ◌∷◌, map, length, get_or, take, sym, refl, ap, ◌∙◌, subst, arith}
+use Rattle.std.proofs.Common.{take, sym}
 use Rattle.std.proofs.lemmas.List.{length-take-le}
 use Rattle.hashed_store.proofs.Links.{all_of_it}
 use Rattle.hashed_store.proofs.HashedStoreAccountStore.stands.Goals as goal

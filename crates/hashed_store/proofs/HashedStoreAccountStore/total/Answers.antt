@@ -1,4 +1,4 @@
-use Rattle.std.proofs.Common.{◌≡◌, ℕ, ◌+◌, ◌-◌, ◌<◌, ◌≤◌, [], ◌∷◌, map, length, get_or, take, sum_by, sym, refl, ap, ◌∙◌, subst, arith}
+use Rattle.std.proofs.Common.{◌≡◌, ℕ, ◌-◌, get_or, take, sum_by, ap, arith}
 use Rattle.std.proofs.lemmas.List.{length-take-le}
 use Rattle.terms.specs.declared.Account.{Account}
 use Rattle.accounts.proofs.Edits.{free_fits}

@@ -1,4 +1,4 @@
-use Rattle.std.proofs.Common.{ℕ, ◌*◌, ◌/◌, ◌%◌, ◌<◌, refl, arith, rules}
+use Rattle.std.proofs.Common.{◌*◌, ◌%◌, refl, arith, rules}
 use Rattle.hashed_store.specs.Probing.{start}
 use Rattle.hashed_store.proofs.Starts.{scaled}
 use Rattle.hashed_store.proofs.tables.hash.Goals as goal

@@ -1,9 +1,9 @@
-use Rattle.std.proofs.Common.{◌≡◌, ℕ, ◌+◌, ◌<◌, ◌≤◌, List, [], ◌++◌, map, length, get_or, take, drop, sym, refl, ap, ◌∙◌, subst, inl, inr, arith}
+use Rattle.std.proofs.Common.{◌≡◌, ℕ, ◌+◌, ◌<◌, ◌≤◌, List, [], ◌++◌, map, length, get_or, take, sym, ap, ◌∙◌, subst, inl, inr, arith}
 use Rattle.std.proofs.lemmas.List.{length-map, length-take-le, get_or-take, drop_all, append-nil}
-use Rattle.std.proofs.lemmas.Bool.{cases_eq, cases_lt}
+use Rattle.std.proofs.lemmas.Bool.{cases_lt}
 use Rattle.hashed_store.specs.declared.entry.Entry.{Entry}
 use Rattle.hashed_store.specs.Index.{number}
-use Rattle.hashed_store.specs.Probing.{seen, turned}
+use Rattle.hashed_store.specs.Probing.{seen}
 use Rattle.hashed_store.proofs.Probes.{probe_pass, probe_stop, number_at, filled_high, filled_low}
 use Rattle.hashed_store.proofs.tables.probe_from.Goals as goal
 

@@ -1,4 +1,4 @@
-use Rattle.std.proofs.Common.{◌≡◌, Ok, Err, sym, refl, ap, ◌∙◌, arith}
+use Rattle.std.proofs.Common.{Err, sym, refl, ap, ◌∙◌, arith}
 use Rattle.offers.proofs.Replies.{place_stands, place_full, place_out, place_made}
 use Rattle.ordered_book.specs.Rows.{book_of}
 use Rattle.ordered_book.proofs.Slots.{ok, rows, in_range, amount_none, places}
@@ -44,7 +44,7 @@ invariant_of-self c =
     let o = places s.table.len s.table.slots.now s.fits s.sound c.args.key c.args.units c.in-Err.i c.insert.new.self.len c.insert.new.self.slots.now c.insert.result
     (sym c.in_range.ensures ∙ c.if-not-in_range.false) gap (omega (arith, rows s.table.len s.table.slots.now s.fits s.sound))
     c.insert.ensures.done c.insert.ensures.len c.insert.ensures.fits c.insert.ensures.records in
-    (o.2, (o.1, tt))
+    record { fits = o.2; sound = o.1 }
 
 pub returns-else-not-in_range : goal.returns-else-not-in_range
 returns-else-not-in_range c =

@@ -1,4 +1,4 @@
-use Rattle.std.proofs.Common.{ℕ, [], map, length, refl, ap, ◌∙◌, arith}
+use Rattle.std.proofs.Common.{map, ap, ◌∙◌, arith}
 use Rattle.std.proofs.lemmas.List.{nil_from_length, length-map}
 use Rattle.hashed_store.specs.Index.{number}
 use Rattle.hashed_store.specs.Probing.{has}
