@@ -12,7 +12,7 @@ overflow_add-had g c =
     let l = g.S.AccountStore.ledger c.args.store.now in
     let had = balance_fits l.store l.sound c.args.key.account c.args.key.bought in
     let small : c.if-amount-rest.sold ≤ largest =
-    elim c.if-amount-rest.branch [ then-amount-rest w ↦ omega (arith, w.sold_is, c.requires.0) | else-amount-rest w ↦ omega (arith, w.sold_is, c.requires.0) ] in
+    elim c.if-amount-rest.branch [ then-amount-rest w ↦ omega (arith, w.sold-is, c.requires.0) | else-amount-rest w ↦ omega (arith, w.sold-is, c.requires.0) ] in
     let p = scaled c.if-amount-rest.sold c.args.rates.sold small c.requires.1.0 in
     let q : c.if-amount-rest.sold * c.args.rates.sold / c.args.rates.bought ≤ c.if-amount-rest.sold * c.args.rates.sold =
     div-le_self (c.if-amount-rest.sold * c.args.rates.sold) c.args.rates.bought in

@@ -40,8 +40,8 @@ returns-then-not-serves g c =
       );
     }
 
-pub returns-in_err-fill : goal.returns-in_err-fill
-returns-in_err-fill g c =
+pub returns-in_err-fill-in-Some : goal.returns-in_err-fill-in-Some
+returns-in_err-fill-in-Some g c =
     let o = g.B.OfferBook.orders c.args.book.now in
     let next = next_key o.book o.sound c.args.at (Some c.in-Some.key) c.in-Some.ensures in
     let (pq, e) = and_parts _ _ (sym c.if-not-serves.ensures) in
@@ -50,24 +50,24 @@ returns-in_err-fill g c =
       bounded = refused c.args.rest c.args.rates c.from_residual.result c.from_residual.ensures.0;
       kept = no_room _ _ c.from_residual.result c.from_residual.ensures.0;
       turned = λ s b first p here.
-          absurd (c.in_err-fill.ensures
+          absurd (c.in_err-fill-in-Some.ensures
           (able s b first p.ready c.args.at.sold c.args.at.bought c.args.at c.args.rest _ _ here c.args.rates p
           c.in-Some.key next (eqb-true _ _ ps) (eqb-true _ _ pb) e));
     }
 
-pub returns-in_ok-fill : goal.returns-in_ok-fill
-returns-in_ok-fill g c =
+pub returns-in_ok-fill-in-Some : goal.returns-in_ok-fill-in-Some
+returns-in_ok-fill-in-Some g c =
     let o = g.B.OfferBook.orders c.args.book.now in
     let next = next_key o.book o.sound c.args.at (Some c.in-Some.key) c.in-Some.ensures in
     let (pq, e) = and_parts _ _ (sym c.if-not-serves.ensures) in
     let (ps, pb) = and_parts _ _ pq in
-    let (ek, done) = c.in_ok-fill.ensures in
+    let (ek, done) = c.in_ok-fill-in-Some.ensures in
     let some = next.1 in
-    let d = div-le_self (c.in_ok-fill.fill.sold * c.args.rates.sold) c.args.rates.bought in
+    let d = div-le_self (c.in_ok-fill-in-Some.fill.sold * c.args.rates.sold) c.args.rates.bought in
     record {
       bounded = (omega (arith, done.sold, some, c.requires.0), omega (arith, done.sold), omega (arith, done.paid, d));
       kept = done.book.capacity;
       turned = λ s b first p here.
           turned s b first p.ready c.args.at.sold c.args.at.bought c.args.at c.args.rest _ _ here c.args.rates p
-          c.in-Some.key next (eqb-true _ _ ps) (eqb-true _ _ pb) e _ _ refl _ c.in_ok-fill.fill ek done;
+          c.in-Some.key next (eqb-true _ _ ps) (eqb-true _ _ pb) e _ _ refl _ c.in_ok-fill-in-Some.fill ek done;
     }
