@@ -1,5 +1,5 @@
 -- The order of keys is that of their numbers. Assumes nothing.
-use Rattle.std.proofs.Common.{◌≡◌, ℕ, ◌+◌, ◌*◌, ◌^◌, ◌<◌, ◌≤◌, Bool, true, false, cond, eqb, ltb, ◌⊎◌, [], ◌∷◌, sym, ap, ◌∙◌, subst, inl, inr, mul-le-mul_right, add-mul, arith}
+use Rattle.std.proofs.Common.{◌≡◌, ℕ, ◌+◌, ◌*◌, ◌^◌, ◌<◌, ◌≤◌, Bool, true, false, cond, eqb, ltb, ◌⊎◌, sym, ap, ◌∙◌, subst, inl, inr, mul-le-mul_right, add-mul, arith}
 use Rattle.std.proofs.lemmas.Bool.{cases_order, cases_lt, cases_Bool, cond-true, cond-false, eq-eqb, ne_eqb, eqb-true, lt-ltb, le-ltb, both_ways}
 use Rattle.terms.specs.declared.Key.{Key}
 use Rattle.terms.specs.Order.{lower, same, words}

@@ -1,4 +1,4 @@
-use Rattle.std.proofs.Common.{◌≡◌, true, ◌&&◌, Ok, Err, sym, refl, ap, ◌∙◌, arith}
+use Rattle.std.proofs.Common.{Err, sym, refl, ap, ◌∙◌, arith}
 use Rattle.std.proofs.lemmas.Bool.{and_parts}
 use Rattle.terms.specs.Ranges.{fit_key, is_amount}
 use Rattle.offers.proofs.Replies.{place_stands, place_full, place_out, place_made}
@@ -34,7 +34,7 @@ invariant_of-self c =
     let e = c.place.ensures in
     let o = places t.capacity u.capacity t.root u.root c.args.key c.args.units c.code-c.result c.place.result t.ok u.ok s.sound (omega (arith, u.few, u.counted, e.capacity))
     c.code-c.ensures.value e.capacity e.holds e.done e.count (sym c.in_range.ensures ∙ c.if-not-in_range.false) (omega (arith, c.amount.ensures)) (omega (arith, count_flat t.root)) in
-    (o.1, tt)
+    record { sound = o.1 }
 
 pub returns : goal.returns
 returns c =

@@ -1,4 +1,4 @@
-use Rattle.std.proofs.Common.{◌≡◌, Ok, Err, sym, refl, ap, ◌∙◌, arith}
+use Rattle.std.proofs.Common.{arith}
 use Rattle.offers.proofs.Replies.{reduce_made}
 use Rattle.trie_book.specs.Codes.{book_of}
 use Rattle.trie_book.proofs.Flats.{stands_bits, reduces}
@@ -18,7 +18,7 @@ invariant_of-self c =
     let e = c.reduce.ensures in
     let o = reduces t.capacity u.capacity t.root u.root c.args.key c.args.units c.code-c.result c.reduce.result t.ok u.ok s.sound (omega (arith, u.few, u.counted, e.capacity))
     c.code-c.ensures.value e.capacity e.holds e.done e.count (omega (arith, c.amount-old.ensures)) (omega (arith, c.amount-old.ensures)) in
-    (o.1, tt)
+    record { sound = o.1 }
 
 pub returns : goal.returns
 returns c =
