@@ -1,16 +1,16 @@
 -- Lists whose keys rise: what stands under each key, and what an insertion, a removal and a write leave there.
 -- Assumes nothing.
-use Rattle.std.proofs.Common.{◌≡◌, ℕ, zero, suc, ◌+◌, ◌-◌, ◌*◌, ◌<◌, ◌≤◌, Bool, true, false, cond, ◌&&◌, ◌⊎◌, List, [], ◌∷◌, ◌++◌, length, get_or, take, drop, set, sum_by, sym, refl, ap, ◌∙◌, subst, inl, inr, add-one, arith}
+use Rattle.std.proofs.Common.{◌≡◌, ℕ, zero, suc, ◌+◌, ◌<◌, ◌≤◌, Bool, true, false, cond, List, [], ◌∷◌, ◌++◌, length, get_or, take, drop, set, sum_by, sym, refl, ap, ◌∙◌, subst, inl, inr, add-one, arith}
 use Rattle.std.specs.List.{insert, remove, AllByRecursion as All}
 use Rattle.std.proofs.lemmas.List.{take-append-drop, take_all}
 use Rattle.std.proofs.lemmas.List.Sums.{sum_by-cons, sum_by-append, sum_by-take-drop, sum_by-drop_more, sum_by-set}
-use Rattle.std.proofs.lemmas.Bool.{cond-true, cond-false, cases_Bool, and_parts, and_from, both_ways}
+use Rattle.std.proofs.lemmas.Bool.{cond-true, cond-false, cases_Bool, and_parts, and_from}
 use Rattle.std.proofs.ByRecursion.{All-weaker, All-append, All-get_or, All-set, All-take, All-drop}
 use Rattle.terms.specs.Order.{lower, same, Rising, under, above}
 use Rattle.terms.specs.Ranges.{every}
 use Rattle.terms.specs.Holdings.{rising}
 use Rattle.ordered.specs.Places.{Gap, Past}
-use Rattle.terms.proofs.Order.{apart, not_both, same_is, same_refl, same_sym, total, transitive, irreflexive}
+use Rattle.terms.proofs.Order.{apart, not_both, same_is, same_refl, same_sym}
 
 pub sum_by_zero : {X : Type 0} (f : X → ℕ) (xs : List X) → All (λ x. f x ≡ 0) xs → sum_by f xs ≡ 0
 sum_by_zero f [] h = refl

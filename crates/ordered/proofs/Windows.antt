@@ -1,8 +1,8 @@
 -- A search by halves in a list whose keys rise. Assumes nothing.
-use Rattle.std.proofs.Common.{◌≡◌, ℕ, suc, ◌+◌, ◌-◌, ◌<◌, ◌≤◌, Bool, true, false, ◌⊎◌, List, [], ◌∷◌, length, get_or, take, drop, sym, refl, ap, ◌∙◌, subst, inl, inr, add-one, arith}
+use Rattle.std.proofs.Common.{◌≡◌, ℕ, suc, ◌+◌, ◌<◌, ◌≤◌, Bool, true, false, List, length, get_or, take, drop, sym, ap, ◌∙◌, subst, inl, inr, add-one, arith}
 use Rattle.std.specs.List.{AllByRecursion as All}
 use Rattle.std.proofs.lemmas.List.{drop_all, drop_more, get_or_default}
-use Rattle.std.proofs.ByRecursion.{All-weaker, All-more, All-get_or}
+use Rattle.std.proofs.ByRecursion.{All-weaker, All-more}
 use Rattle.std.proofs.lemmas.Bool.{cases_Bool, both_ways}
 use Rattle.terms.specs.Order.{lower, Rising}
 use Rattle.ordered.specs.Places.{Gap, At, Cut, Past}

@@ -1,6 +1,6 @@
 -- What an account store and an offer book mean: accounts and offers in rising order, with the room there is for them.
 -- Assumes nothing.
-use Rattle.std.specs.Prelude.{◌≡◌, ℕ, ◌+◌, Bool, true, false, cond, ◌&&◌, List, [], ◌∷◌, length, sum_by, ◌==◌, nat_le, slice_index}
+use Rattle.std.specs.Prelude.{ℕ, Bool, true, cond, ◌&&◌, List, [], ◌∷◌, length, sum_by, ◌==◌, nat_le, slice_index}
 use Rattle.terms.specs.declared.Account.{Account}
 use Rattle.terms.specs.declared.Key.{Key}
 use Rattle.terms.specs.declared.Offer.{Offer}

@@ -1,4 +1,4 @@
-use Rattle.std.proofs.Common.{◌≡◌, ℕ, min, take, sum_by}
+use Rattle.std.proofs.Common.{◌≡◌, min, take, sum_by}
 use Rattle.ordered.proofs.sums.total.Given as goal
 
 abbrev pub invariant-loop-x : goal.invariant-loop-x

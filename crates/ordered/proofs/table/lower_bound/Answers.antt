@@ -1,4 +1,4 @@
-use Rattle.std.proofs.Common.{◌≡◌, ℕ, ◌+◌, ◌-◌, ◌/◌, ◌<◌, ◌≤◌, true, false, List, length, sym, ap, ◌∙◌, arith}
+use Rattle.std.proofs.Common.{◌≡◌, ℕ, ◌+◌, ◌-◌, ◌/◌, true, false, List, arith}
 use Rattle.terms.specs.Order.{lower}
 use Rattle.ordered.proofs.Windows.{told_by, window_start, window_low, window_high, window_cut}
 use Rattle.ordered.proofs.table.lower_bound.Goals as goal

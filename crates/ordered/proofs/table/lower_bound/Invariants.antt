@@ -1,4 +1,4 @@
-use Rattle.std.proofs.Common.{ℕ, ◌-◌, ◌<◌, ◌≤◌, length}
+use Rattle.std.proofs.Common.{◌-◌, ◌≤◌, length}
 use Rattle.terms.specs.Order.{Rising}
 use Rattle.ordered.proofs.Windows.{Window}
 use Rattle.ordered.proofs.table.lower_bound.Given as goal

@@ -1,4 +1,4 @@
-use Rattle.std.proofs.Common.{◌≡◌, ℕ, ◌+◌, ◌<◌, ◌≤◌, true, false, List, sym, ap, ◌∙◌, arith}
+use Rattle.std.proofs.Common.{◌≡◌, ℕ, true, false, List, arith}
 use Rattle.terms.specs.Order.{lower}
 use Rattle.ordered.proofs.Windows.{told_by, gap_here, at_here, gap_end}
 use Rattle.ordered.proofs.table.search.Goals as goal

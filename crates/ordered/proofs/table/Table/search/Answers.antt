@@ -1,4 +1,4 @@
-use Rattle.std.proofs.Common.{ℕ, List, sym, subst, MatchResult}
+use Rattle.std.proofs.Common.{ℕ, List, subst, MatchResult}
 use Rattle.terms.specs.Order.{Rising}
 use Rattle.ordered.specs.Places.{At, Gap}
 use Rattle.ordered.proofs.table.Table.search.Goals as goal
