@@ -1,5 +1,5 @@
 -- What judging knows of a decoded block, and what of a state matters to it. Assumes nothing.
-use Rattle.std.proofs.Common.{◌≡◌, ℕ, ◌≤◌, true, cond, eqb, leb, List, length, Some, None, Option, Result, sym, subst}
+use Rattle.std.proofs.Common.{◌≡◌, ℕ, ◌≤◌, true, eqb, leb, List, length, Some, None, Option, Result, sym, subst}
 use Rattle.std.proofs.lemmas.Bool.{and_parts, leb-true}
 use Rattle.terms.specs.declared.Fault.{Fault}
 use Rattle.terms.specs.declared.Volume.{Volume}
@@ -8,7 +8,6 @@ use Rattle.terms.specs.Ranges.{every, is_price, is_word, fit_volume, fit_transac
 use Rattle.terms.specs.Holdings.{Store, Book, rising}
 use Rattle.blocks.specs.Readable.{Block, pair, fit_block}
 use Rattle.exchange.specs.State.{State}
-use Rattle.exchange.specs.Trade.{cancelled}
 use Rattle.exchange.specs.Faults.{Cause, Bad, Verdict}
 use Rattle.exchange.specs.Faults.Cause.{wrong-height, wrong-parent, uncleared, no_source, out-of-window, repeated, no-receiver, bad-account, no-offer, cancelled-twice, overdrawn, accounts_full, offers_full, excess_volume}
 use Rattle.judging_rules.specs.Rows.{scene}

@@ -1,5 +1,5 @@
 -- What is eligible of a pair: the book's offers, without the cancelled and with the new. Assumes nothing.
-use Rattle.std.proofs.Common.{◌≡◌, ℕ, ◌+◌, ◌*◌, ◌/◌, ◌^◌, ◌<◌, ◌≤◌, min, Bool, true, false, cond, ◌&&◌, eqb, ltb, leb, List, [], ◌∷◌, get_or, sum_by, filter, Result, sym, refl, ap, ◌∙◌, subst, ap₂, inl, inr, le-div_iff_mul-le, arith}
+use Rattle.std.proofs.Common.{◌≡◌, ℕ, ◌+◌, ◌*◌, ◌/◌, ◌^◌, ◌<◌, ◌≤◌, min, Bool, true, cond, ◌&&◌, eqb, ltb, leb, List, [], ◌∷◌, get_or, sum_by, filter, Result, sym, refl, ap, ◌∙◌, subst, ap₂, inl, inr, le-div_iff_mul-le, arith}
 use Rattle.std.specs.List.{flat_map, ContainsAt as Has}
 use Rattle.std.proofs.lemmas.Bool.Decides.{nat_tests}
 use Rattle.std.proofs.lemmas.Bool.{cases_Bool, cases_eq, eqb-true, eq-eqb, ne_eqb, le-leb, lt-leb, cases_lt, ltb-true, lt-ltb, and_parts}
@@ -18,7 +18,7 @@ use Rattle.terms.specs.Holdings.{Book, amount_at, up_to, sound_book}
 use Rattle.terms.proofs.Order.{key_is, same_is}
 use Rattle.blocks.specs.Readable.{Block, pair}
 use Rattle.exchange.specs.State.{State}
-use Rattle.exchange.specs.Trade.{places, cancels, placed, cancelled, placements, cancellations, cancels_of, eligible, eligible_in, trading, supply, volume}
+use Rattle.exchange.specs.Trade.{places, cancels, placed, cancelled, placements, cancellations, cancels_of, eligible_in, trading, supply, volume}
 use Rattle.exchange.specs.Faults.{Bad}
 use Rattle.exchange.specs.Faults.Cause.{cancelled-twice}
 use Rattle.exchange.proofs.Rising.{sum_by_same, sum_by_plus, all_of}
