@@ -21,15 +21,15 @@ question_of Top = ex.Question.top
 question_of Offers = ex.Question.offers
 question_of OfferCapacity = ex.Question.offer_capacity
 question_of (Remainder x) = ex.Question.remainder_of x
-question_of (Free x) = ex.Question.Free-of x
-question_of (Offered x) = ex.Question.offered-of x
-question_of (Stands n) = ex.Question.standing-of n
-question_of (Floor n) = ex.Question.floor-of n
+question_of (Free x) = ex.Question.all_free x
+question_of (Offered x) = ex.Question.all_offered x
+question_of (Stands n) = ex.Question.standing_of n
+question_of (Floor n) = ex.Question.floor_of n
 question_of (Balance n x) = ex.Question.balance_of n x
 question_of (Amount k) = ex.Question.amount_of k
 question_of (AccountAbove n) = ex.Question.account_above n
 question_of (OfferAbove k) = ex.Question.offer_above k
-question_of (UpTo x y l) = ex.Question.up_to_lem x y l
+question_of (UpTo x y l) = ex.Question.offered_up_to x y l
 
 -- the numbers of a reply
 abbrev pub reply_of : Reply → List ℕ

@@ -16,7 +16,7 @@ use Rattle.blocks.specs.Readable.{Block, fit_block}
 use Rattle.exchange.specs.State.{State, remainder}
 use Rattle.exchange.specs.Trade.{created, placed, cancelled, creations, payments, placements, cancellations, openings, cancels_of, incoming, outgoing, trading, sold, volume_of, left_over}
 use Rattle.exchange.specs.Faults.{Verdict}
-use Rattle.exchange.specs.Faults.Cause.{bad-account, no-offer, accounts_full, offers_full}
+use Rattle.exchange.specs.Faults.Cause.{bad_account, no_offer, accounts_full, offers_full}
 use Rattle.exchange.specs.Commit.{Owned, Sound}
 use Rattle.exchange.proofs.Causes.{faulty}
 use Rattle.exchange.proofs.Rising.{sum_by_same, all_of}
@@ -86,7 +86,7 @@ module _ (s : State) (b : Block) (ts : List Transaction) (ns : List (Net Slot)) 
       go u m k h =
           elim (cases_lt 0 (amount_at s.book.offers k)) [
             | inl p ↦ p
-            | inr p ↦ absurd (clean _ (faulty s b no-offer u.source u.sequence (u, (m, refl, refl), (k, h, omega arith))))
+            | inr p ↦ absurd (clean _ (faulty s b no_offer u.source u.sequence (u, (m, refl, refl), (k, h, omega arith))))
           ]
 
   module _ (bk₁ : Book) (left : Left (flat_map cancelled ts) s.book bk₁) where
@@ -219,7 +219,7 @@ module _ (s : State) (b : Block) (ts : List Transaction) (ns : List (Net Slot)) 
                 let (u, h, q) = some_of (λ u. sum_by (λ m. cond (eqb m n) 1 0) (created u)) b.transactions (omega (arith, sum_by_joined (λ m. cond (eqb m n) 1 0) created b.transactions)) in
                 let (m, k, r) = some_of (λ m. cond (eqb m n) 1 0) (created u) q in
                 let e : m ≡ n = eqb-true m n (passed (eqb m n) 1 r) in
-                clean _ (faulty s b bad-account u.source u.sequence (u, (h, refl, refl), (m, k, inr (inr (subst (λ z. 1 < openings b z) (sym e) p)))))
+                clean _ (faulty s b bad_account u.source u.sequence (u, (h, refl, refl), (m, k, inr (inr (subst (λ z. 1 < openings b z) (sym e) p)))))
 
         -- the new accounts are in range and do not stand, each is created once, and there is room for them
         pub can_open : CanOpen (flat_map created ts) st₃
@@ -234,11 +234,11 @@ module _ (s : State) (b : Block) (ts : List Transaction) (ns : List (Net Slot)) 
             go : (u : Transaction) → Has b.transactions u → (n : ℕ) → Has (created u) n → (n ≤ st₃.top) × (standing st₃ n ≡ 0)
             go u m n h = (
               elim (cases_lt s.store.top n) [
-                | inl p ↦ absurd (clean _ (faulty s b bad-account u.source u.sequence (u, (m, refl, refl), (n, h, inr (inl p)))))
+                | inl p ↦ absurd (clean _ (faulty s b bad_account u.source u.sequence (u, (m, refl, refl), (n, h, inr (inl p)))))
                 | inr p ↦ omega (arith, p, raised.top, filled.kept.top, applied.top)
               ],
               elim (cases_lt 0 (standing s.store n)) [
-                | inl p ↦ absurd (clean _ (faulty s b bad-account u.source u.sequence (u, (m, refl, refl), (n, h, inl p))))
+                | inl p ↦ absurd (clean _ (faulty s b bad_account u.source u.sequence (u, (m, refl, refl), (n, h, inl p))))
                 | inr p ↦ omega (arith, p, stands₃ n)
               ],
             )

@@ -6,7 +6,7 @@ use Rattle.terms.specs.declared.Fault.{Fault}
 use Rattle.terms.specs.Order.{lower, rank}
 use Rattle.blocks.specs.Readable.{Block}
 use Rattle.exchange.specs.State.{State, Counts}
-use Rattle.exchange.specs.Faults.Cause.{wrong-height, wrong-parent, uncleared, no_source, out-of-window, repeated, no-receiver, bad-account, no-offer, cancelled-twice, overdrawn, accounts_full, offers_full, excess_volume}
+use Rattle.exchange.specs.Faults.Cause.{wrong_height, wrong_parent, uncleared, no_source, out_of_window, repeated, no_receiver, bad_account, no_offer, cancelled_twice, overdrawn, accounts_full, offers_full, excess_volume}
 use Rattle.exchange.specs.Faults.{Cause, Bad, Faulty, Least, Verdict, fault, number}
 use Rattle.exchange.specs.Commit.{counted}
 use Rattle.terms.proofs.Order.{total}
@@ -17,22 +17,22 @@ faulty s b c i j p = (c, refl, p)
 -- a cause is told by its number
 abbrev cause_of : ℕ → Cause
 cause_of n =
-    cond (eqb n 8) wrong-height (cond (eqb n 9) wrong-parent (cond (eqb n 10) uncleared (cond (eqb n 11) no_source
-    (cond (eqb n 12) out-of-window (cond (eqb n 13) repeated (cond (eqb n 14) no-receiver (cond (eqb n 15) bad-account
-    (cond (eqb n 16) no-offer (cond (eqb n 17) cancelled-twice (cond (eqb n 18) overdrawn (cond (eqb n 19) accounts_full
+    cond (eqb n 8) wrong_height (cond (eqb n 9) wrong_parent (cond (eqb n 10) uncleared (cond (eqb n 11) no_source
+    (cond (eqb n 12) out_of_window (cond (eqb n 13) repeated (cond (eqb n 14) no_receiver (cond (eqb n 15) bad_account
+    (cond (eqb n 16) no_offer (cond (eqb n 17) cancelled_twice (cond (eqb n 18) overdrawn (cond (eqb n 19) accounts_full
     (cond (eqb n 20) offers_full excess_volume))))))))))))
 
 told : (c : Cause) → cause_of (number c) ≡ c
-told wrong-height = refl
-told wrong-parent = refl
+told wrong_height = refl
+told wrong_parent = refl
 told uncleared = refl
 told no_source = refl
-told out-of-window = refl
+told out_of_window = refl
 told repeated = refl
-told no-receiver = refl
-told bad-account = refl
-told no-offer = refl
-told cancelled-twice = refl
+told no_receiver = refl
+told bad_account = refl
+told no_offer = refl
+told cancelled_twice = refl
 told overdrawn = refl
 told accounts_full = refl
 told offers_full = refl
@@ -78,16 +78,16 @@ one_least P Q to from (Some f) (Some g) p q = ap Some (rank_is f g (total (rank 
 
 -- faults do not depend on the counts
 pub bad_counted : (s : State) (n : Counts) (b : Block) (c : Cause) (i j : ℕ) → Bad (counted s n) b c i j → Bad s b c i j
-bad_counted s n b wrong-height i j p = p
-bad_counted s n b wrong-parent i j p = p
+bad_counted s n b wrong_height i j p = p
+bad_counted s n b wrong_parent i j p = p
 bad_counted s n b uncleared i j p = p
 bad_counted s n b no_source i j p = p
-bad_counted s n b out-of-window i j p = p
+bad_counted s n b out_of_window i j p = p
 bad_counted s n b repeated i j p = p
-bad_counted s n b no-receiver i j p = p
-bad_counted s n b bad-account i j p = p
-bad_counted s n b no-offer i j p = p
-bad_counted s n b cancelled-twice i j p = p
+bad_counted s n b no_receiver i j p = p
+bad_counted s n b bad_account i j p = p
+bad_counted s n b no_offer i j p = p
+bad_counted s n b cancelled_twice i j p = p
 bad_counted s n b overdrawn i j p = p
 bad_counted s n b accounts_full i j p = p
 bad_counted s n b offers_full i j p = p

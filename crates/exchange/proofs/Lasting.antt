@@ -19,7 +19,7 @@ use Rattle.blocks.proofs.Laws.{founds_fits}
 use Rattle.exchange.specs.State.{State, Counts, remainder}
 use Rattle.exchange.specs.Trade.{opens, places, created, placed, cancelled, creations, placements, cancellations, openings, cancels_of, trading}
 use Rattle.exchange.specs.Faults.{fault, Verdict, FoundingVerdict, granted}
-use Rattle.exchange.specs.Faults.Cause.{wrong-height, bad-account, no-offer, accounts_full, offers_full}
+use Rattle.exchange.specs.Faults.Cause.{wrong_height, bad_account, no_offer, accounts_full, offers_full}
 use Rattle.exchange.specs.Faults.Objection.{bad_grant, too_many_grants, excess_grants}
 use Rattle.exchange.specs.Commit.{Ordered, Owned, Sound, Founded, Committed, counted}
 use Rattle.exchange.specs.Claims.{SoundForLife}
@@ -213,7 +213,7 @@ module _ (s : State) (b : Block) (so : Sound s) (clean : Verdict s b None) (fit 
             let (u, m, q) = opening_has b n (omega (arith, h, c.stand n)) in (
               all-has _ (created u) n (opens_fit u.action (all-has _ b.transactions u facts m).action) q,
               elim (cases_lt s.store.top n) [
-                | inl r ↦ absurd (clean _ (faulty s b bad-account u.source u.sequence (u, (m, refl, refl), (n, q, inr (inl r)))))
+                | inl r ↦ absurd (clean _ (faulty s b bad_account u.source u.sequence (u, (m, refl, refl), (n, q, inr (inl r)))))
                 | inr r ↦ le-leb _ _ (omega (arith, r, c.capacities.top))
               ],
             )
@@ -318,7 +318,7 @@ module _ (s : State) (b : Block) (so : Sound s) (clean : Verdict s b None) (fit 
           go u m k h =
               elim (cases_lt 0 (under place (λ _. 1) s.book.offers (words k))) [
                 | inl p ↦ p
-                | inr p ↦ absurd (clean _ (faulty s b no-offer u.source u.sequence (u, (m, refl, refl), (k, h, under_gone place (λ o. o.amount) s.book.offers (words k) (omega arith)))))
+                | inr p ↦ absurd (clean _ (faulty s b no_offer u.source u.sequence (u, (m, refl, refl), (k, h, under_gone place (λ o. o.amount) s.book.offers (words k) (omega arith)))))
               ]
 
       stay : length kept + length (cancellations b) ≤ length s.book.offers
@@ -347,7 +347,7 @@ module _ (s : State) (b : Block) (so : Sound s) (clean : Verdict s b None) (fit 
   height =
       elim (cases_eq b.height (s.own.height + 1)) [
         | inl e ↦ subst (λ n. is_word n ≡ true) (e ∙ sym c.height) fit.height
-        | inr n ↦ absurd (clean _ (faulty s b wrong-height b.height s.own.height (n, refl, refl)))
+        | inr n ↦ absurd (clean _ (faulty s b wrong_height b.height s.own.height (n, refl, refl)))
       ]
 
   pub still_sound : Sound t

@@ -16,7 +16,7 @@ use Rattle.blocks.specs.Readable.{Block}
 use Rattle.exchange.specs.State.{State}
 use Rattle.exchange.specs.Trade.{created, paying, placed, cancelled, cancels_of, incoming, outgoing, volume, eligible, eligible_in, share, trading, sold, pay_for, paid, payout, paid_in, left_over, volume_of}
 use Rattle.exchange.specs.Faults.{Cause, Bad, HasAt, Faulty, Verdict}
-use Rattle.exchange.specs.Faults.Cause.{wrong-height, wrong-parent, uncleared, no_source, out-of-window, repeated, no-receiver, bad-account, no-offer, cancelled-twice, overdrawn, accounts_full, offers_full, excess_volume}
+use Rattle.exchange.specs.Faults.Cause.{wrong_height, wrong_parent, uncleared, no_source, out_of_window, repeated, no_receiver, bad_account, no_offer, cancelled_twice, overdrawn, accounts_full, offers_full, excess_volume}
 use Rattle.exchange.specs.Life.{Rearranged}
 use Rattle.exchange.proofs.Sums.{sum_by_joined, ones}
 use Rattle.exchange.proofs.Causes.{one_least}
@@ -79,17 +79,17 @@ module _ (s : State) (b : Block) (us : List Transaction) (h : IsPermutation b.tr
   there t i j (m, p, q) = (has_shuffled _ _ t h m, p, q)
 
   bad : (c : Cause) (i j : ℕ) → Bad s b c i j → Bad s (reorder b us) c i j
-  bad wrong-height i j p = p
-  bad wrong-parent i j p = p
+  bad wrong_height i j p = p
+  bad wrong_parent i j p = p
   bad uncleared i j p = p
   bad no_source i j (t, m, p) = (t, there t i j m, p)
-  bad out-of-window i j (t, m, p) = (t, there t i j m, p)
+  bad out_of_window i j (t, m, p) = (t, there t i j m, p)
   bad repeated i j p = subst (λ m. 1 < m) (sym (sums _)) p
-  bad no-receiver i j (t, m, p) = (t, there t i j m, p)
-  bad bad-account i j (t, m, (n, q, p)) =
+  bad no_receiver i j (t, m, p) = (t, there t i j m, p)
+  bad bad_account i j (t, m, (n, q, p)) =
       (t, there t i j m, (n, q, subst (λ m. (0 < standing s.store n) ⊎ ((s.store.top < n) ⊎ (1 < m))) (sym (joins created _)) p))
-  bad no-offer i j (t, m, p) = (t, there t i j m, p)
-  bad cancelled-twice i j (t, m, (k, q, p)) = (t, there t i j m, (k, q, subst (λ m. 1 < m) (sym (joins cancelled _)) p))
+  bad no_offer i j (t, m, p) = (t, there t i j m, p)
+  bad cancelled_twice i j (t, m, (k, q, p)) = (t, there t i j m, (k, q, subst (λ m. 1 < m) (sym (joins cancelled _)) p))
   bad overdrawn i j (l, p) = (l, omega (arith, incoming_same i j, outgoing_same i j))
   bad accounts_full i j (p, q, r) = (omega (arith, lengths created), q, r)
   bad offers_full i j (p, q, r) = (omega (arith, lengths cancelled, lengths placed), q, r)

@@ -18,7 +18,7 @@ use Rattle.blocks.specs.Readable.{Block, pair}
 use Rattle.exchange.specs.State.{State}
 use Rattle.exchange.specs.Trade.{Payment, places, pays, cancels, paying, placed, cancelled, payments, placements, cancellations, cancels_of, price, volume, volume_of, worth_for, trading, eligible, before, supply, sold, paid, paid_in}
 use Rattle.exchange.specs.Faults.{Verdict, in_window, tag}
-use Rattle.exchange.specs.Faults.Cause.{uncleared, no_source, out-of-window, repeated, no-receiver, cancelled-twice, excess_volume}
+use Rattle.exchange.specs.Faults.Cause.{uncleared, no_source, out_of_window, repeated, no_receiver, cancelled_twice, excess_volume}
 use Rattle.exchange.specs.Commit.{Owned}
 use Rattle.exchange.proofs.Causes.{faulty}
 use Rattle.terms.proofs.Order.{same_is, key_is}
@@ -113,7 +113,7 @@ module _ (s : State) (b : Block) (so : Owned s) (clean : Verdict s b None) where
   fresh x m =
       elim (cases_Bool (in_window (floor_at s.store x.source) x.sequence)) [
         | inl p ↦ above_floor (floor_at s.store x.source) x.sequence p
-        | inr p ↦ absurd (clean _ (faulty s b out-of-window x.source x.sequence (x, (m, refl, refl), p)))
+        | inr p ↦ absurd (clean _ (faulty s b out_of_window x.source x.sequence (x, (m, refl, refl), p)))
       ]
 
   pub payers : All (λ p. 0 < standing s.store p.payer) (payments b)
@@ -128,7 +128,7 @@ module _ (s : State) (b : Block) (so : Owned s) (clean : Verdict s b None) where
       go x m p h =
           elim (cases_lt 0 (standing s.store p.receiver)) [
             | inl l ↦ l
-            | inr l ↦ absurd (clean _ (faulty s b no-receiver x.source x.sequence (x, (m, refl, refl), (p, h, omega arith))))
+            | inr l ↦ absurd (clean _ (faulty s b no_receiver x.source x.sequence (x, (m, refl, refl), (p, h, omega arith))))
           ]
 
   pub cancellers : All (λ k. 0 < standing s.store k.account) (cancellations b)
@@ -210,7 +210,7 @@ module _ (s : State) (b : Block) (so : Owned s) (clean : Verdict s b None) where
           let (j, n, r) = some_of (λ j. cond (same (words j) (words k)) 1 0) (cancelled x) q in
           let e : same (words j) (words k) ≡ true =
           elim (cases_Bool (same (words j) (words k))) [ inl y ↦ y | inr y ↦ absurd (omega (arith, r, if_false (same (words j) (words k)) 1 0 y)) ] in
-          clean _ (faulty s b cancelled-twice x.source x.sequence (x, (m, refl, refl), (j, n, subst (λ z. 1 < cancels_of b z) (sym (key_is j k (same_is (words j) (words k) e))) p)))
+          clean _ (faulty s b cancelled_twice x.source x.sequence (x, (m, refl, refl), (j, n, subst (λ z. 1 < cancels_of b z) (sym (key_is j k (same_is (words j) (words k) e))) p)))
 
   module _ (x : ℕ) where
     -- what is offered, without the cancelled and with the new

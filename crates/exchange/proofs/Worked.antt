@@ -12,7 +12,7 @@ use Rattle.blocks.specs.Readable.{Block}
 use Rattle.exchange.specs.State.{State, no_counts, remainder}
 use Rattle.exchange.specs.Trade.{created, paying, cancelled, incoming, outgoing, trading, sold, payout, left_over}
 use Rattle.exchange.specs.Faults.{Cause, Bad, number, Verdict, fault, in_window, tag}
-use Rattle.exchange.specs.Faults.Cause.{wrong-height, wrong-parent, uncleared, no_source, out-of-window, repeated, no-receiver, bad-account, no-offer, cancelled-twice, overdrawn, accounts_full, offers_full, excess_volume}
+use Rattle.exchange.specs.Faults.Cause.{wrong_height, wrong_parent, uncleared, no_source, out_of_window, repeated, no_receiver, bad_account, no_offer, cancelled_twice, overdrawn, accounts_full, offers_full, excess_volume}
 use Rattle.exchange.specs.Commit.{Committed, counted, one_passed}
 use Rattle.exchange.specs.Cases.{start, after, trade, block, pay, offer, offers, key_of, numbered, after_numbered}
 use Rattle.exchange.proofs.Digests.{digest_numbered, digest_committed}
@@ -37,20 +37,20 @@ not_in_empty x (k, l, _) = omega arith
 
 module _ (b : Block) (h : Plain b) (cleared : (k l : ℕ) → Bad start b uncleared k l → ⊥) where
   none : (d : Cause) → number d < 18 → (k l : ℕ) → Bad start b d k l → ⊥
-  none wrong-height n k l (p, _, _) = p h.height
-  none wrong-parent n k l (p, _, _) = p h.parent
+  none wrong_height n k l (p, _, _) = p h.height
+  none wrong_parent n k l (p, _, _) = p h.parent
   none uncleared n k l p = cleared k l p
   none no_source n k l (t, (m, e, f), p) =
       omega (arith, subst (λ i. standing start.store i ≡ 0) (sym e) p, all-has _ b.transactions t h.sources m)
-  none out-of-window n k l (t, (m, e, f), p) =
+  none out_of_window n k l (t, (m, e, f), p) =
       true≢false (sym (all-has _ b.transactions t h.window m)
       ∙ (λ i. in_window (floor_at start.store (e i)) (f i)) ∙ p)
   none repeated n k l p = omega (arith, h.once k l)
-  none no-receiver n k l (t, (m, e, f), (p, q, r)) =
+  none no_receiver n k l (t, (m, e, f), (p, q, r)) =
       omega (arith, r, all-has (λ z. 0 < standing start.store z.receiver) (paying t) p (all-has _ b.transactions t h.receivers m) q)
-  none bad-account n k l (t, (m, e, f), (a, q, r)) = not_in_empty a (subst (λ z. Has z a) (all-has _ b.transactions t h.uncreated m) q)
-  none no-offer n k l (t, (m, e, f), (j, q, r)) = not_in_empty j (subst (λ z. Has z j) (all-has _ b.transactions t h.uncancelled m) q)
-  none cancelled-twice n k l (t, (m, e, f), (j, q, r)) = not_in_empty j (subst (λ z. Has z j) (all-has _ b.transactions t h.uncancelled m) q)
+  none bad_account n k l (t, (m, e, f), (a, q, r)) = not_in_empty a (subst (λ z. Has z a) (all-has _ b.transactions t h.uncreated m) q)
+  none no_offer n k l (t, (m, e, f), (j, q, r)) = not_in_empty j (subst (λ z. Has z j) (all-has _ b.transactions t h.uncancelled m) q)
+  none cancelled_twice n k l (t, (m, e, f), (j, q, r)) = not_in_empty j (subst (λ z. Has z j) (all-has _ b.transactions t h.uncancelled m) q)
   none overdrawn n k l p = omega arith
   none accounts_full n k l p = omega arith
   none offers_full n k l p = omega arith
@@ -60,16 +60,16 @@ module _ (b : Block) (h : Plain b) (cleared : (k l : ℕ) → Bad start b unclea
   clean : ((k l : ℕ) → Bad start b overdrawn k l → ⊥) → ((k l : ℕ) → Bad start b accounts_full k l → ⊥)
       → ((k l : ℕ) → Bad start b offers_full k l → ⊥) → ((k l : ℕ) → Bad start b excess_volume k l → ⊥)
       → Verdict start b None
-  clean p q r v f (wrong-height, e, x) = none wrong-height (lit< tt) f.first f.second x
-  clean p q r v f (wrong-parent, e, x) = none wrong-parent (lit< tt) f.first f.second x
+  clean p q r v f (wrong_height, e, x) = none wrong_height (lit< tt) f.first f.second x
+  clean p q r v f (wrong_parent, e, x) = none wrong_parent (lit< tt) f.first f.second x
   clean p q r v f (uncleared, e, x) = none uncleared (lit< tt) f.first f.second x
   clean p q r v f (no_source, e, x) = none no_source (lit< tt) f.first f.second x
-  clean p q r v f (out-of-window, e, x) = none out-of-window (lit< tt) f.first f.second x
+  clean p q r v f (out_of_window, e, x) = none out_of_window (lit< tt) f.first f.second x
   clean p q r v f (repeated, e, x) = none repeated (lit< tt) f.first f.second x
-  clean p q r v f (no-receiver, e, x) = none no-receiver (lit< tt) f.first f.second x
-  clean p q r v f (bad-account, e, x) = none bad-account (lit< tt) f.first f.second x
-  clean p q r v f (no-offer, e, x) = none no-offer (lit< tt) f.first f.second x
-  clean p q r v f (cancelled-twice, e, x) = none cancelled-twice (lit< tt) f.first f.second x
+  clean p q r v f (no_receiver, e, x) = none no_receiver (lit< tt) f.first f.second x
+  clean p q r v f (bad_account, e, x) = none bad_account (lit< tt) f.first f.second x
+  clean p q r v f (no_offer, e, x) = none no_offer (lit< tt) f.first f.second x
+  clean p q r v f (cancelled_twice, e, x) = none cancelled_twice (lit< tt) f.first f.second x
   clean p q r v f (overdrawn, e, x) = p f.first f.second x
   clean p q r v f (accounts_full, e, x) = q f.first f.second x
   clean p q r v f (offers_full, e, x) = r f.first f.second x
@@ -78,16 +78,16 @@ module _ (b : Block) (h : Plain b) (cleared : (k l : ℕ) → Bad start b unclea
 -- the volumes
 
 before_10 : (b : Block) → b.height ≡ 1 → b.parent ≡ start.own.digest → (d : Cause) → number d < 10 → (k l : ℕ) → Bad start b d k l → ⊥
-before_10 b x y wrong-height h k l (p, _, _) = p x
-before_10 b x y wrong-parent h k l (p, _, _) = p y
+before_10 b x y wrong_height h k l (p, _, _) = p x
+before_10 b x y wrong_parent h k l (p, _, _) = p y
 before_10 b x y uncleared h k l p = omega arith
 before_10 b x y no_source h k l p = omega arith
-before_10 b x y out-of-window h k l p = omega arith
+before_10 b x y out_of_window h k l p = omega arith
 before_10 b x y repeated h k l p = omega arith
-before_10 b x y no-receiver h k l p = omega arith
-before_10 b x y bad-account h k l p = omega arith
-before_10 b x y no-offer h k l p = omega arith
-before_10 b x y cancelled-twice h k l p = omega arith
+before_10 b x y no_receiver h k l p = omega arith
+before_10 b x y bad_account h k l p = omega arith
+before_10 b x y no_offer h k l p = omega arith
+before_10 b x y cancelled_twice h k l p = omega arith
 before_10 b x y overdrawn h k l p = omega arith
 before_10 b x y accounts_full h k l p = omega arith
 before_10 b x y offers_full h k l p = omega arith

@@ -30,20 +30,20 @@ tag t = t.source ∷ t.sequence ∷ []
 
 -- Why a block is refused.
 pub data Cause : Type 0 where
-  wrong-height wrong-parent uncleared no_source out-of-window repeated no-receiver bad-account no-offer cancelled-twice
+  wrong_height wrong_parent uncleared no_source out_of_window repeated no_receiver bad_account no_offer cancelled_twice
       overdrawn accounts_full offers_full excess_volume : Cause
 
 abbrev pub number : Cause → ℕ
-number wrong-height = 8
-number wrong-parent = 9
+number wrong_height = 8
+number wrong_parent = 9
 number uncleared = 10
 number no_source = 11
-number out-of-window = 12
+number out_of_window = 12
 number repeated = 13
-number no-receiver = 14
-number bad-account = 15
-number no-offer = 16
-number cancelled-twice = 17
+number no_receiver = 14
+number bad_account = 15
+number no_offer = 16
+number cancelled_twice = 17
 number overdrawn = 18
 number accounts_full = 19
 number offers_full = 20
@@ -56,29 +56,29 @@ HasAt b t i j = Has b.transactions t × (t.source ≡ i) × (t.sequence ≡ j)
 -- The cause holds of the block, at the places i and j. Standing means before the block.
 abbrev pub Bad : State → Block → Cause → ℕ → ℕ → Type 0
 -- 8: the height is not the replica's + 1; at the block's and the replica's
-Bad s b wrong-height i j = (b.height ≢ s.own.height + 1) × (i ≡ b.height) × (j ≡ s.own.height)
+Bad s b wrong_height i j = (b.height ≢ s.own.height + 1) × (i ≡ b.height) × (j ≡ s.own.height)
 -- 9: the parent is not the replica's digest
-Bad s b wrong-parent i j = (b.parent ≢ s.own.digest) × (i ≡ 0) × (j ≡ 0)
+Bad s b wrong_parent i j = (b.parent ≢ s.own.digest) × (i ≡ 0) × (j ≡ 0)
 -- 10: what is sold for an asset is worth more than what is sold of it; at the asset
 Bad s b uncleared i j = (i < 8) × (volume_of b i * price b i < worth_for b i) × (j ≡ 0)
 -- 11: the source does not stand; here and up to 17 at the transaction
 Bad s b no_source i j = (t : Transaction) × HasAt b t i j × (standing s.store i ≡ 0)
 -- 12: the sequence number is none of the good ones
-Bad s b out-of-window i j = (t : Transaction) × HasAt b t i j × (in_window (floor_at s.store i) j ≡ false)
+Bad s b out_of_window i j = (t : Transaction) × HasAt b t i j × (in_window (floor_at s.store i) j ≡ false)
 -- 13: source and sequence number occur twice
 Bad s b repeated i j = 1 < under tag (λ _. 1) b.transactions (i ∷ j ∷ [])
 -- 14: the receiver does not stand
-Bad s b no-receiver i j =
+Bad s b no_receiver i j =
     (t : Transaction) × HasAt b t i j × ((p : Payment) × Has (paying t) p × (standing s.store p.receiver ≡ 0))
 -- 15: the new account stands, is above the top or is in two creations
-Bad s b bad-account i j =
+Bad s b bad_account i j =
     (t : Transaction) × HasAt b t i j × ((n : ℕ) × Has (created t) n
     × ((0 < standing s.store n) ⊎ ((s.store.top < n) ⊎ (1 < openings b n))))
 -- 16: the cancelled offer does not stand
-Bad s b no-offer i j =
+Bad s b no_offer i j =
     (t : Transaction) × HasAt b t i j × ((k : Key) × Has (cancelled t) k × (amount_at s.book.offers k ≡ 0))
 -- 17: the offer is in two cancellations
-Bad s b cancelled-twice i j = (t : Transaction) × HasAt b t i j × ((k : Key) × Has (cancelled t) k × (1 < cancels_of b k))
+Bad s b cancelled_twice i j = (t : Transaction) × HasAt b t i j × ((k : Key) × Has (cancelled t) k × (1 < cancels_of b k))
 -- 18: balance and net are below zero; at the account and the asset
 Bad s b overdrawn i j = (j < 8) × (balance_at s.store i j + incoming s b i j < outgoing s b i j)
 -- 19: the accounts would exceed the store's capacity

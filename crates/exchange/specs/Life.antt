@@ -65,7 +65,7 @@ after_reject s = counted s (one_rejected s.counts)
 pub data Question : Type 0 where
   height digest passed committed lapsed rejected : Question
   accounts account_capacity top offers offer_capacity : Question
-  remainder_of Free-of offered-of standing-of floor-of : ℕ → Question
+  remainder_of all_free all_offered standing_of floor_of : ℕ → Question
   balance_of : (account asset : ℕ) → Question
   amount_of : Key → Question
   account_above : ℕ → Question
@@ -85,10 +85,10 @@ reply s top = s.store.top ∷ []
 reply s offers = length s.book.offers ∷ []
 reply s offer_capacity = s.book.capacity ∷ []
 reply s (remainder_of x) = remainder s x ∷ []
-reply s (Free-of x) = free_of s.store x ∷ []
-reply s (offered-of x) = offered_of s.book x ∷ []
-reply s (standing-of n) = standing s.store n ∷ []
-reply s (floor-of n) = floor_at s.store n ∷ []
+reply s (all_free x) = free_of s.store x ∷ []
+reply s (all_offered x) = offered_of s.book x ∷ []
+reply s (standing_of n) = standing s.store n ∷ []
+reply s (floor_of n) = floor_at s.store n ∷ []
 reply s (balance_of n x) = balance_at s.store n x ∷ []
 reply s (amount_of k) = amount_at s.book.offers k ∷ []
 -- the lowest account or key above, or none

@@ -9,7 +9,7 @@ use Rattle.terms.specs.Holdings.{Store, Book, rising}
 use Rattle.blocks.specs.Readable.{Block, pair, fit_block}
 use Rattle.exchange.specs.State.{State}
 use Rattle.exchange.specs.Faults.{Cause, Bad, Verdict}
-use Rattle.exchange.specs.Faults.Cause.{wrong-height, wrong-parent, uncleared, no_source, out-of-window, repeated, no-receiver, bad-account, no-offer, cancelled-twice, overdrawn, accounts_full, offers_full, excess_volume}
+use Rattle.exchange.specs.Faults.Cause.{wrong_height, wrong_parent, uncleared, no_source, out_of_window, repeated, no_receiver, bad_account, no_offer, cancelled_twice, overdrawn, accounts_full, offers_full, excess_volume}
 use Rattle.judging_rules.specs.Rows.{scene}
 use Rattle.tally.specs.Least.{fault_of}
 use Rattle.judging.specs.Verdicts.{Judges}
@@ -37,32 +37,32 @@ module _ (s : State) (b : Block) where
   seen = scene s.store s.book s.own.height s.own.digest
 
   to_seen : (c : Cause) (i j : ℕ) → Bad s b c i j → Bad seen b c i j
-  to_seen wrong-height i j p = p
-  to_seen wrong-parent i j p = p
+  to_seen wrong_height i j p = p
+  to_seen wrong_parent i j p = p
   to_seen uncleared i j p = p
   to_seen no_source i j p = p
-  to_seen out-of-window i j p = p
+  to_seen out_of_window i j p = p
   to_seen repeated i j p = p
-  to_seen no-receiver i j p = p
-  to_seen bad-account i j p = p
-  to_seen no-offer i j p = p
-  to_seen cancelled-twice i j p = p
+  to_seen no_receiver i j p = p
+  to_seen bad_account i j p = p
+  to_seen no_offer i j p = p
+  to_seen cancelled_twice i j p = p
   to_seen overdrawn i j p = p
   to_seen accounts_full i j p = p
   to_seen offers_full i j p = p
   to_seen excess_volume i j p = p
 
   from_seen : (c : Cause) (i j : ℕ) → Bad seen b c i j → Bad s b c i j
-  from_seen wrong-height i j p = p
-  from_seen wrong-parent i j p = p
+  from_seen wrong_height i j p = p
+  from_seen wrong_parent i j p = p
   from_seen uncleared i j p = p
   from_seen no_source i j p = p
-  from_seen out-of-window i j p = p
+  from_seen out_of_window i j p = p
   from_seen repeated i j p = p
-  from_seen no-receiver i j p = p
-  from_seen bad-account i j p = p
-  from_seen no-offer i j p = p
-  from_seen cancelled-twice i j p = p
+  from_seen no_receiver i j p = p
+  from_seen bad_account i j p = p
+  from_seen no_offer i j p = p
+  from_seen cancelled_twice i j p = p
   from_seen overdrawn i j p = p
   from_seen accounts_full i j p = p
   from_seen offers_full i j p = p

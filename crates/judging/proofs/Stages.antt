@@ -5,23 +5,23 @@ use Rattle.terms.specs.declared.Fault.{Fault}
 use Rattle.blocks.specs.Readable.{Block}
 use Rattle.exchange.specs.State.{State}
 use Rattle.exchange.specs.Faults.{Cause, Bad, Verdict, number, fault}
-use Rattle.exchange.specs.Faults.Cause.{wrong-height, wrong-parent, uncleared, no_source, out-of-window, repeated, no-receiver, bad-account, no-offer, cancelled-twice, overdrawn, accounts_full, offers_full, excess_volume}
+use Rattle.exchange.specs.Faults.Cause.{wrong_height, wrong_parent, uncleared, no_source, out_of_window, repeated, no_receiver, bad_account, no_offer, cancelled_twice, overdrawn, accounts_full, offers_full, excess_volume}
 use Rattle.exchange.proofs.Causes.{one_cause, least}
 use Rattle.tally.specs.Least.{Told}
 use Rattle.tally.specs.Least.{fault_of}
 use Rattle.judging.specs.Verdicts.{Clear, First, Stage}
 
 numbered : (c : Cause) → (8 ≤ number c) × (number c < 22)
-numbered wrong-height = (lit≤ tt, lit< tt)
-numbered wrong-parent = (lit≤ tt, lit< tt)
+numbered wrong_height = (lit≤ tt, lit< tt)
+numbered wrong_parent = (lit≤ tt, lit< tt)
 numbered uncleared = (lit≤ tt, lit< tt)
 numbered no_source = (lit≤ tt, lit< tt)
-numbered out-of-window = (lit≤ tt, lit< tt)
+numbered out_of_window = (lit≤ tt, lit< tt)
 numbered repeated = (lit≤ tt, lit< tt)
-numbered no-receiver = (lit≤ tt, lit< tt)
-numbered bad-account = (lit≤ tt, lit< tt)
-numbered no-offer = (lit≤ tt, lit< tt)
-numbered cancelled-twice = (lit≤ tt, lit< tt)
+numbered no_receiver = (lit≤ tt, lit< tt)
+numbered bad_account = (lit≤ tt, lit< tt)
+numbered no_offer = (lit≤ tt, lit< tt)
+numbered cancelled_twice = (lit≤ tt, lit< tt)
 numbered overdrawn = (lit≤ tt, lit< tt)
 numbered accounts_full = (lit≤ tt, lit< tt)
 numbered offers_full = (lit≤ tt, lit< tt)

@@ -8,7 +8,7 @@ ghost use Rattle.std.specs.Option.{option_to_list};
 ghost use Rattle.terms.specs.Order.{words, Rising, under};
 ghost use Rattle.exchange.specs.Trade.{created, cancelled};
 ghost use Rattle.exchange.specs.Faults.{fault};
-ghost use Rattle.exchange.specs.Faults.Cause.{repeated, bad-account, cancelled-twice};
+ghost use Rattle.exchange.specs.Faults.Cause.{repeated, bad_account, cancelled_twice};
 ghost use Rattle.judging_rules.specs.Rows.{Row, scene, no_store, no_book, bundle, any};
 ghost use Rattle.judging_repeats.specs.Counts.{ones, tagged, is_bad};
 
@@ -130,7 +130,7 @@ impl<'a, S: AccountStore> Rule<Transaction> for Fresh<'a, S> {
 
 // Each new account does not stand, is not above the top and is in one creation only.
 pub fn openings_good<S: AccountStore>(store: &S, transactions: &[Transaction]) -> Result<(), Fault>
-    ensures row { length transactions.now ≤ 1024 → Row (scene (S.AccountStore.ledger store.now).store no_book 0 []) (bundle transactions.now) bad-account result }
+    ensures row { length transactions.now ≤ 1024 → Row (scene (S.AccountStore.ledger store.now).store no_book 0 []) (bundle transactions.now) bad_account result }
     ensures many { 1024 < length transactions.now → result ≡ Err (fault 6 0 0) }
 {
     let mut effects = [Effect {
@@ -219,7 +219,7 @@ impl<'a> Rule<Transaction> for CancelledOnce<'a> {
 
 // No offer is in two cancellations.
 pub fn cancelled_once(transactions: &[Transaction]) -> Result<(), Fault>
-    ensures row { length transactions.now ≤ 1024 → Row (scene no_store no_book 0 []) (bundle transactions.now) cancelled-twice result }
+    ensures row { length transactions.now ≤ 1024 → Row (scene no_store no_book 0 []) (bundle transactions.now) cancelled_twice result }
     ensures many { 1024 < length transactions.now → result ≡ Err (fault 6 0 0) }
 {
     let none = Key {

@@ -7,7 +7,7 @@ ghost use Rattle.std.specs.Prelude.{◌≡◌, not, List, [], ◌==◌, nat_eq};
 ghost use Rattle.terms.specs.Holdings.{standing, floor_at, amount_at};
 ghost use Rattle.exchange.specs.Trade.{paying, cancelled};
 ghost use Rattle.exchange.specs.Faults.{in_window};
-ghost use Rattle.exchange.specs.Faults.Cause.{no_source, out-of-window, no-receiver, no-offer};
+ghost use Rattle.exchange.specs.Faults.Cause.{no_source, out_of_window, no_receiver, no_offer};
 ghost use Rattle.judging_rules.specs.Rows.{Row, scene, no_store, no_book, bundle, any};
 
 use accounts::AccountStore;
@@ -54,7 +54,7 @@ pub fn sequences_in_window<S: AccountStore>(
     store: &S,
     transactions: &[Transaction],
 ) -> Result<(), Fault>
-    ensures { Row (scene (S.AccountStore.ledger store.now).store no_book 0 []) (bundle transactions.now) out-of-window result }
+    ensures { Row (scene (S.AccountStore.ledger store.now).store no_book 0 []) (bundle transactions.now) out_of_window result }
 {
     report(&Window { store }, 12, transactions)
 }
@@ -80,7 +80,7 @@ pub fn receivers_stand<S: AccountStore>(
     store: &S,
     transactions: &[Transaction],
 ) -> Result<(), Fault>
-    ensures { Row (scene (S.AccountStore.ledger store.now).store no_book 0 []) (bundle transactions.now) no-receiver result }
+    ensures { Row (scene (S.AccountStore.ledger store.now).store no_book 0 []) (bundle transactions.now) no_receiver result }
 {
     report(&Receiver { store }, 14, transactions)
 }
@@ -117,7 +117,7 @@ impl<'a, B: OfferBook> Rule<Transaction> for Standing<'a, B> {
 }
 
 pub fn cancelled_stand<B: OfferBook>(book: &B, transactions: &[Transaction]) -> Result<(), Fault>
-    ensures { Row (scene no_store (B.OfferBook.orders book.now).book 0 []) (bundle transactions.now) no-offer result }
+    ensures { Row (scene no_store (B.OfferBook.orders book.now).book 0 []) (bundle transactions.now) no_offer result }
 {
     report(&Standing { book }, 16, transactions)
 }

@@ -20,7 +20,7 @@ use Rattle.blocks.specs.Readable.{Block, pair}
 use Rattle.exchange.specs.State.{State}
 use Rattle.exchange.specs.Trade.{places, cancels, placed, cancelled, placements, cancellations, cancels_of, eligible_in, trading, supply, volume}
 use Rattle.exchange.specs.Faults.{Bad}
-use Rattle.exchange.specs.Faults.Cause.{cancelled-twice}
+use Rattle.exchange.specs.Faults.Cause.{cancelled_twice}
 use Rattle.exchange.proofs.Rising.{sum_by_same, sum_by_plus, all_of}
 use Rattle.exchange.proofs.Sums.{if_true, if_false, sum_by_kept, sum_by_joined, some_of}
 use Rattle.exchange.proofs.Keyed.{by_keys}
@@ -34,7 +34,7 @@ use Rattle.judging_rules.specs.Rows.{scene, no_store, bundle, deal}
 use Rattle.judging_volumes.specs.Trades.{trades_by, trades}
 
 -- where no transaction cancels an offer that another cancels too, each offer is cancelled at most once
-pub at_most_once : (s : State) (b : Block) → ((i j : ℕ) → Bad s b cancelled-twice i j → ⊥) → (k : Key) → cancels_of b k ≤ 1
+pub at_most_once : (s : State) (b : Block) → ((i j : ℕ) → Bad s b cancelled_twice i j → ⊥) → (k : Key) → cancels_of b k ≤ 1
 at_most_once s b clean k = elim (cases_lt 1 (cancels_of b k)) [ inl p ↦ absurd (again p) | inr p ↦ p ]
   where
     again : 1 < cancels_of b k → ⊥

@@ -6,7 +6,7 @@ use Rattle.terms.specs.Holdings.{Store, Book, sound_store, sound_book}
 use Rattle.blocks.specs.Readable.{Block, fit_block}
 use Rattle.exchange.specs.State.{State}
 use Rattle.exchange.specs.Faults.{Verdict}
-use Rattle.exchange.specs.Faults.Cause.{wrong-height}
+use Rattle.exchange.specs.Faults.Cause.{wrong_height}
 use Rattle.exchange.specs.Commit.{Committed, digest_of}
 use Rattle.exchange.proofs.Causes.{faulty}
 use Rattle.clearing.specs.Clear.{Cleared, after}
@@ -18,7 +18,7 @@ height_left s b clean fit =
     let word : b.height < 4294967296 = ltb-true b.height 4294967296 (and_parts (is_word b.height) _ fit).0 in
     elim (cases_eq b.height (s.own.height + 1)) [
       | inl e ↦ omega (arith, e, word)
-      | inr n ↦ absurd (clean _ (faulty s b wrong-height b.height s.own.height (n, refl, refl)))
+      | inr n ↦ absurd (clean _ (faulty s b wrong_height b.height s.own.height (n, refl, refl)))
     ]
 
 pub applied : (s : State) (b : Block) (st : Store) (bk : Book) (rs d : List ℕ) (h k : ℕ) → Cleared s b st bk rs

@@ -5,7 +5,7 @@ use Rattle.terms.specs.Holdings.{amount_at}
 use Rattle.blocks.specs.Readable.{pair}
 use Rattle.blocks.specs.Decoded.{block_of}
 use Rattle.exchange.specs.Trade.{cancels_of, eligible, trading, volume, sold, pay_for}
-use Rattle.exchange.specs.Faults.Cause.{cancelled-twice}
+use Rattle.exchange.specs.Faults.Cause.{cancelled_twice}
 use Rattle.exchange.proofs.Causes.{faulty}
 use Rattle.judging_rules.specs.Rows.{scene, no_store, bundle, deal}
 use Rattle.judging_volumes.proofs.Supply.{at_most_once}
@@ -40,7 +40,7 @@ returns g c s e clean =
     let v : c.sum-volume.result ≡ volume b k.sold k.bought = c.sum-volume.ensures.is ∙ ap (λ vs. under pair (λ w. w.amount) vs (k.sold ∷ k.bought ∷ [])) c.volumes.ensures in
     let a : c.amount_in_trade-amount.result ≡ amount_at (trading s b) k =
     c.amount_in_trade-amount.ensures ∙ ap₂ (λ z t. amount_at (trading (scene no_store z 0 []) (bundle t)) k) (sym e) ts.ensures in
-    let once = subst (λ t. (j : Key) → cancels_of (bundle t) j ≤ 1) (sym ts.ensures) (at_most_once s b (λ i j p. clean _ (faulty s b cancelled-twice i j p))) in
+    let once = subst (λ t. (j : Key) → cancels_of (bundle t) j ≤ 1) (sym ts.ensures) (at_most_once s b (λ i j p. clean _ (faulty s b cancelled_twice i j p))) in
     let n : c.amount_ahead-ahead.result ≡ sum_ahead k (trading s b) =
     c.amount_ahead-ahead.ensures once ∙ ap₂ (λ z t. sum_ahead k (trading (scene no_store z 0 []) (bundle t))) (sym e) ts.ensures in
     let is = sold_is s b k c.sum-volume.result c.amount_in_trade-amount.result c.amount_ahead-ahead.result met v a n in

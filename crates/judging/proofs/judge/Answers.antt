@@ -1,6 +1,6 @@
 use Rattle.std.proofs.Common.{lit<, lit≤}
 use Rattle.blocks.specs.Decoded.{block_of}
-use Rattle.exchange.specs.Faults.Cause.{cancelled-twice}
+use Rattle.exchange.specs.Faults.Cause.{cancelled_twice}
 use Rattle.judging_rules.specs.Rows.{scene}
 use Rattle.judging.proofs.Stages.{clear_join, first_wider, stage_join, broke, verdict}
 use Rattle.judging_volumes.proofs.Supply.{at_most_once}
@@ -40,7 +40,7 @@ returns g c =
     let r = c.judge_totals in
     let k = c.in_ok-judge_heading.ensures st bk in
     let t = c.in_ok-judge_transactions.ensures c.args.height c.args.digest.now in
-    let once = at_most_once s b (t cancelled-twice (lit≤ tt) (lit< tt)) in
+    let once = at_most_once s b (t cancelled_twice (lit≤ tt) (lit< tt)) in
     judges st bk c.args.height c.args.digest.now b r.result
     (verdict s b r.result
     (stage_join s b 8 18 22 r.result (lit≤ tt) (clear_join s b 8 11 18 k t) (r.ensures once c.args.height c.args.digest.now)))
