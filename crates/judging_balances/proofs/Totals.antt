@@ -1,5 +1,5 @@
 -- The moves of a block add up to what comes in and goes out. Assumes nothing.
-use Rattle.std.proofs.Common.{◌≡◌, ℕ, ◌+◌, Bool, true, false, cond, ◌&&◌, eqb, List, [], ◌∷◌, sum_by, sym, refl, ◌∙◌, ap₂, arith}
+use Rattle.std.proofs.Common.{◌≡◌, ℕ, ◌+◌, cond, ◌&&◌, eqb, List, [], ◌∷◌, sum_by, sym, refl, ◌∙◌, ap₂, arith}
 use Rattle.std.proofs.lemmas.Bool.Decides.{nat_tests}
 use Rattle.std.specs.List.{flat_map}
 use Rattle.terms.specs.declared.Key.{Key}
@@ -9,7 +9,6 @@ use Rattle.terms.specs.declared.Action.TheVariants.{Create, Pay, Place, Cancel}
 use Rattle.terms.specs.declared.Transaction.{Transaction}
 use Rattle.terms.specs.Order.{same, under}
 use Rattle.terms.specs.Holdings.{Store, Book, amount_at}
-use Rattle.exchange.specs.State.{State}
 use Rattle.exchange.specs.Trade.{Payment, pays, places, cancels, paying, placed, cancelled, incoming, outgoing}
 use Rattle.exchange.proofs.Rising.{sum_by_same, sum_by_plus, all_of}
 use Rattle.exchange.proofs.Sums.{sum_by_joined}

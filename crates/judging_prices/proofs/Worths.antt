@@ -1,5 +1,5 @@
 -- What is sold and bought of an asset, by its worth. Assumes nothing.
-use Rattle.std.proofs.Common.{◌≡◌, ℕ, zero, suc, ◌+◌, ◌*◌, ◌^◌, ◌<◌, ◌≤◌, min, Bool, true, false, cond, eqb, ◌⊎◌, List, [], ◌∷◌, length, get_or, take, sum_by, Result, sym, refl, ap, ◌∙◌, subst, inl, inr, mul_comm, mul-le-mul, arith, lit<}
+use Rattle.std.proofs.Common.{◌≡◌, ℕ, zero, suc, ◌+◌, ◌*◌, ◌^◌, ◌<◌, ◌≤◌, min, Bool, true, cond, eqb, List, [], ◌∷◌, length, get_or, take, sum_by, Result, sym, refl, ap, ◌∙◌, subst, inl, inr, mul_comm, mul-le-mul, arith, lit<}
 use Rattle.std.proofs.lemmas.Bool.{cases_Bool, eqb-true}
 use Rattle.std.proofs.lemmas.List.Sums.{sum_by_more}
 use Rattle.std.proofs.ByRecursion.{has_get_or, all-has}
@@ -13,7 +13,7 @@ use Rattle.tally.specs.Least.{Told, Broken}
 use Rattle.tally.proofs.Tells.{told_by}
 use Rattle.judging_rules.specs.Rows.{deal}
 use Rattle.judging_prices.specs.declared.Asset.{Asset}
-use Rattle.judging_prices.specs.declared.Side.TheVariants.{Sold, Bought}
+use Rattle.judging_prices.specs.declared.Side.TheVariants.{Sold}
 use Rattle.judging_prices.specs.Worth.{worth_at}
 
 -- a product of 64 and 32 bits

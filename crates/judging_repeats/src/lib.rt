@@ -3,7 +3,7 @@
 // with fault 6; otherwise it tells the least place at which its rule is broken.
 #![tactic(auto)]
 
-ghost use Rattle.std.specs.Prelude.{◌≡◌, ℕ, ◌+◌, ◌<◌, ◌≤◌, ltb, List, [], ◌∷◌, length, Err, nat_lt};
+ghost use Rattle.std.specs.Prelude.{◌≡◌, ℕ, ◌+◌, ◌<◌, ◌≤◌, List, [], ◌∷◌, length, Err, nat_lt};
 ghost use Rattle.std.specs.Option.{option_to_list};
 ghost use Rattle.terms.specs.Order.{words, Rising, under};
 ghost use Rattle.exchange.specs.Trade.{created, cancelled};
@@ -205,7 +205,7 @@ struct CancelledOnce<'a> {
 }
 
 impl<'a> Rule<Transaction> for CancelledOnce<'a> {
-    ghost broken = { λ r t. any (λ k. ltb 1 (under (λ x. words x.key) (λ x. x.plus) r.nets.now (words k))) (cancelled t) };
+    ghost broken = { λ r t. any (λ k. nat_lt 1 (under (λ x. words x.key) (λ x. x.plus) r.nets.now (words k))) (cancelled t) };
 
     ghost ready = { λ r. Rising (λ x. words x.key) r.nets.now };
 

@@ -1,7 +1,6 @@
 -- What the transactions of a block ask for, counted. Assumes nothing.
-use Rattle.std.proofs.Common.{◌≡◌, ℕ, ◌+◌, ◌*◌, ◌<◌, ◌≤◌, min, List, [], ◌∷◌, length, sum_by, sym, refl, ◌∙◌, arith, lit≤}
+use Rattle.std.proofs.Common.{◌≡◌, ℕ, ◌≤◌, min, List, length, sum_by, sym, ◌∙◌, arith, lit≤}
 use Rattle.std.specs.List.{flat_map}
-use Rattle.std.proofs.lemmas.List.Sums.{sum_by-cons}
 use Rattle.terms.specs.declared.Action.{Action}
 use Rattle.terms.specs.declared.Action.TheVariants.{Create, Pay, Place, Cancel}
 use Rattle.terms.specs.declared.Transaction.{Transaction}

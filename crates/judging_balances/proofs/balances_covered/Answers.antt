@@ -1,4 +1,4 @@
-use Rattle.std.proofs.Common.{◌≡◌, ℕ, ◌+◌, ◌<◌, true, false, ◌&&◌, ltb, [], ◌∷◌, refl, arith}
+use Rattle.std.proofs.Common.{◌+◌, ◌&&◌, ltb, refl, arith}
 use Rattle.std.proofs.lemmas.Bool.Decides.{nat_tests}
 use Rattle.std.specs.List.{flat_map}
 use Rattle.terms.specs.Holdings.{balance_at, amount_at}

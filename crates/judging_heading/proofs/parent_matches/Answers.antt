@@ -1,4 +1,3 @@
-use Rattle.std.proofs.Common.{◌≡◌, Err, sym, refl, subst}
 use Rattle.std.proofs.lemmas.Bool.{both_ways}
 use Rattle.std.proofs.lemmas.Slice.Eq.{slice_eq-Decides}
 use Rattle.tally.proofs.Tells.{told_once, told_no}

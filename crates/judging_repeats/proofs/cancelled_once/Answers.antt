@@ -1,11 +1,10 @@
-use Rattle.std.proofs.Common.{◌≡◌, [], ◌∷◌, ◌∙◌, arith}
+use Rattle.std.proofs.Common.{◌∙◌, arith}
 use Rattle.std.proofs.lemmas.Bool.Decides.{nat_tests}
 use Rattle.terms.specs.Order.{words}
-use Rattle.exchange.specs.Trade.{created, cancelled}
+use Rattle.exchange.specs.Trade.{cancelled}
 use Rattle.tally.proofs.Nets.{front}
-use Rattle.judging_rules.specs.Rows.{bundle}
 use Rattle.judging_rules.proofs.Tells.{told_any}
-use Rattle.judging_repeats.proofs.Counted.{times, times_created}
+use Rattle.judging_repeats.proofs.Counted.{times}
 use Rattle.judging_repeats.proofs.cancelled_once.Goals as goal
 
 pub returns-in-Some : goal.returns-in-Some

@@ -1,7 +1,6 @@
-use Rattle.std.proofs.Common.{◌≡◌, [], ◌∷◌, ◌∙◌, arith}
+use Rattle.std.proofs.Common.{[], ◌∷◌, ◌∙◌, arith}
 use Rattle.std.proofs.lemmas.Bool.Decides.{nat_tests}
-use Rattle.terms.specs.Order.{words}
-use Rattle.exchange.specs.Trade.{created, cancelled}
+use Rattle.exchange.specs.Trade.{created}
 use Rattle.tally.proofs.Nets.{front}
 use Rattle.judging_rules.specs.Rows.{bundle}
 use Rattle.judging_rules.proofs.Tells.{told_any}

@@ -1,4 +1,4 @@
-use Rattle.std.proofs.Common.{◌≡◌, true, ltb, [], ◌∷◌, refl, ◌∙◌, arith}
+use Rattle.std.proofs.Common.{ltb, [], ◌∷◌, refl, ◌∙◌, arith}
 use Rattle.std.proofs.lemmas.Bool.Decides.{nat_tests}
 use Rattle.std.specs.List.{flat_map}
 use Rattle.tally.specs.Least.{spot}
