@@ -1,5 +1,5 @@
 -- When two byte strings say alike, by what was read of them. Assumes nothing.
-use Rattle.std.proofs.Common.{◌≡◌, ℕ, Bool, true, false, List, Decides, sym, subst, inl, inr, true≢false}
+use Rattle.std.proofs.Common.{◌≡◌, ℕ, Bool, false, List, Decides, sym, subst, inl, inr, true≢false}
 use Rattle.exchange.specs.Life.{SayAlike}
 
 module _ {X : Type 0} (Says : List ℕ → X → Type 0) (Reordered : X → X → Type 0) (bs cs : List ℕ) (differ : bs ≡ cs → ⊥) where

@@ -1,37 +1,17 @@
 -- Lists compared entry by entry, and lists shuffled through a map. Assumes nothing.
-use Rattle.std.proofs.Common.{◌≡◌, ℕ, ◌<◌, Bool, true, false, not, List, [], ◌∷◌, map, length, get_or, set, Decides, sym, refl, ap, ◌∙◌, subst, inl, inr, arith}
+use Rattle.std.proofs.Common.{◌≡◌, ℕ, ◌<◌, Bool, not, List, [], ◌∷◌, map, length, get_or, set, Decides, sym, refl, ap, ◌∙◌, subst, arith}
 use Rattle.std.specs.List.Sorted.{IsPermutation, apply_swaps, SwapsInRange}
 use Rattle.std.specs.List.{swap}
-use Rattle.std.specs.Cmp.Lexicographic.{Same, Apart, Matches}
+use Rattle.std.specs.Cmp.Lexicographic.{pointwise}
 use Rattle.std.proofs.lemmas.Slice.Eq.{slice_eq-Decides}
 use Rattle.std.proofs.lemmas.List.{map-set, get_or-map, length-map}
 use Rattle.std.proofs.lemmas.List.Sorted.{length_permutation}
-use Rattle.std.proofs.lemmas.Bool.Decides.{Decides-eqb}
+use Rattle.std.proofs.Math.Bool.{not-not}
 
--- Where an answer at two entries decides whether they are equal, so does the answer at two lists.
-module _ {K : Type 0} (E : K → K → Bool → Type 0) (decides : (a b : K) (t : Bool) → E a b t → Decides t (a ≡ b)) where
-  same_by : (xs ys : List K) → Same E xs ys → Same (λ (a b : K) (t : Bool). Decides t (a ≡ b)) xs ys
-  same_by [] [] h = tt
-  same_by [] (y ∷ ys) h = h
-  same_by (x ∷ xs) [] h = h
-  same_by (x ∷ xs) (y ∷ ys) h = (decides x y true h.0, same_by xs ys h.1)
-
-  apart_by : (xs ys : List K) → Apart E xs ys → Apart (λ (a b : K) (t : Bool). Decides t (a ≡ b)) xs ys
-  apart_by [] ys h = h
-  apart_by (x ∷ xs) [] h = h
-  apart_by (x ∷ xs) (y ∷ ys) (inl h) = inl (decides x y false h)
-  apart_by (x ∷ xs) (y ∷ ys) (inr h) = inr (apart_by xs ys h)
-
-  pub matches_by : (xs ys : List K) (r : Bool) → Matches E xs ys r → Decides r (xs ≡ ys)
-  matches_by xs ys true h = slice_eq-Decides Decides-eqb xs ys true (h.0, same_by xs ys h.1)
-  matches_by xs ys false (inl n) = slice_eq-Decides Decides-eqb xs ys false (inl n)
-  matches_by xs ys false (inr h) = slice_eq-Decides Decides-eqb xs ys false (inr (apart_by xs ys h))
-
--- what `!=` tells of two lists
-pub not_matches : {K : Type 0} (xs ys : List K) (r : Bool)
-    → ((x : Bool) × Matches (λ (a b : K) (t : Bool). Decides t (a ≡ b)) xs ys x × (r ≡ not x)) → Decides (not r) (xs ≡ ys)
-not_matches xs ys r (true, h, e) = subst (λ w. Decides (not w) (xs ≡ ys)) (sym e) (slice_eq-Decides Decides-eqb xs ys true h)
-not_matches xs ys r (false, h, e) = subst (λ w. Decides (not w) (xs ≡ ys)) (sym e) (slice_eq-Decides Decides-eqb xs ys false h)
+-- what `!=` tells of two lists, where `==` at the entries decides whether they are equal
+pub not_matches : {A : Type 0} {E : A → A → Bool} → ((a b : A) → Decides (E a b) (a ≡ b)) → (xs ys : List A) (r : Bool)
+    → r ≡ not (pointwise E xs ys) → Decides (not r) (xs ≡ ys)
+not_matches {E = E} decides xs ys r e = slice_eq-Decides decides xs ys (not r) (ap not e ∙ not-not (pointwise E xs ys))
 
 -- eight numbers are all of a list of that length
 pub eight : (xs : List ℕ) → length xs ≡ 8

@@ -1,5 +1,5 @@
 -- Rows in order: two lists of the same rows are equal once both are in order. Assumes nothing.
-use Rattle.std.proofs.Common.{◌≡◌, ℕ, suc, ◌+◌, ◌<◌, Bool, true, false, cond, eqb, ltb, List, [], ◌∷◌, length, get_or, sum_by, Ordering, Less, Equal, Greater, sym, refl, ap, ◌∙◌, subst, inl, inr, arith}
+use Rattle.std.proofs.Common.{◌≡◌, ℕ, suc, ◌+◌, ◌<◌, Bool, true, false, cond, eqb, ltb, List, [], ◌∷◌, length, get_or, Ordering, Less, Equal, Greater, sym, refl, ap, ◌∙◌, subst, inl, inr, arith}
 use native.Mathlib.Numerals.{unary_clauses}
 use Rattle.std.specs.List.{AllByRecursion as All}
 use Rattle.std.specs.List.Sorted.{IsPermutation, IsSortedWithin}
@@ -91,5 +91,5 @@ pub rearranged_equal : (ks ls : List (List ℕ)) → IsSortedWithin lower ks 0 (
 rearranged_equal ks ls up over s = one_sorted ks ls (sorted ks up) (sorted ls over) (λ m. sym (sum_by-IsPermutation (λ l. cond (same l m) 1 0) ks ls s))
 
 -- what the library's sort tells of rows
-pub ascends_lower : (ks : List (List ℕ)) (n : ℕ) → length ks ≡ n → IsSortedWithin (λ k l. is_lt (slice_cmp nat_cmp k l)) ks 0 n → IsSortedWithin lower ks 0 (length ks)
-ascends_lower ks n e up i d p q = sym (lex_lower (get_or ks (i + 1) d) (get_or ks i d)) ∙ up i d p (omega (arith, e, q))
+pub ascends_lower : (ks : List (List ℕ)) → IsSortedWithin (λ k l. is_lt (slice_cmp nat_cmp k l)) ks 0 (length ks) → IsSortedWithin lower ks 0 (length ks)
+ascends_lower ks up i d p q = sym (lex_lower (get_or ks (i + 1) d) (get_or ks i d)) ∙ up i d p q

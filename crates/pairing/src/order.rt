@@ -16,8 +16,8 @@ fn equal(first: &[[u64; 9]], second: &[[u64; 9]]) -> bool
 fn equal_sorted(first: &mut [[u64; 9]], second: &mut [[u64; 9]]) -> bool
     ensures { Decides result (IsPermutation first.old second.old) }
 {
-    first.sort();
-    second.sort();
+    first.sort_unstable();
+    second.sort_unstable();
     equal(first, second)
 }
 

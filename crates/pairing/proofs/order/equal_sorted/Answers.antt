@@ -8,10 +8,10 @@ pub returns : goal.returns
 returns c =
     let xs = c.args.first.now in
     let ys = c.args.second.now in
-    let ks = c.sort.new.self in
-    let ls = c.sort-2.new.self in
-    let p = c.sort.ensures.permutation in
-    let q = c.sort-2.ensures.permutation in (
+    let ks = c.sort_unstable.new.self in
+    let ls = c.sort_unstable-2.new.self in
+    let p = c.sort_unstable.ensures.permutation in
+    let q = c.sort_unstable-2.ensures.permutation in (
       λ e. IsPermutation-trans xs ls ys (subst (λ l. IsPermutation xs l) (c.equal.ensures.0 e) p) (IsPermutation-sym ys ls q),
-      λ s. c.equal.ensures.1 (rearranged_equal ks ls (ascends_lower ks _ c.sort.ensures.len c.sort.ensures.sorted) (ascends_lower ls _ c.sort-2.ensures.len c.sort-2.ensures.sorted) (IsPermutation-trans ks xs ls (IsPermutation-sym xs ks p) (IsPermutation-trans xs ys ls s q))),
+      λ s. c.equal.ensures.1 (rearranged_equal ks ls (ascends_lower ks c.sort_unstable.ensures.sorted) (ascends_lower ls c.sort_unstable-2.ensures.sorted) (IsPermutation-trans ks xs ls (IsPermutation-sym xs ks p) (IsPermutation-trans xs ys ls s q))),
     )
