@@ -1,6 +1,6 @@
 -- The tests of order and range of an account store, as facts, and back. Assumes nothing.
 use Rattle.std.proofs.Common.{◌≡◌, ℕ, ◌<◌, ◌≤◌, true, length}
-use Rattle.std.specs.List.{AllByRecursion as All}
+use Rattle.std.specs.List.{AllByRecursion}
 use Rattle.std.proofs.lemmas.Bool.{and_parts, and_from, ltb-true, leb-true, eqb-true, lt-ltb, le-leb, eq-eqb}
 use Rattle.terms.specs.declared.Account.{Account}
 use Rattle.terms.specs.Order.{Rising, name}
@@ -14,7 +14,7 @@ pub record FitAccount (top : ℕ) (a : Account) : Type 0 where
   pub below : a.number ≤ top
   pub floor : a.floor < 4294967296
   pub eight : length a.balances ≡ 8
-  pub small : All (λ b. is_balance b ≡ true) a.balances
+  pub small : AllByRecursion (λ b. is_balance b ≡ true) a.balances
 
 pub account_parts : (top : ℕ) (a : Account) → fit_account top a ≡ true → FitAccount top a
 account_parts top a e =
@@ -40,7 +40,7 @@ account_from top a f =
 
 pub record SoundStore (s : Store) : Type 0 where
   pub up : Rising name s.accounts
-  pub fit : All (λ a. fit_account s.top a ≡ true) s.accounts
+  pub fit : AllByRecursion (λ a. fit_account s.top a ≡ true) s.accounts
   pub few : length s.accounts ≤ s.capacity
   pub small : s.capacity ≤ 65536
   pub top : s.top < 4294967296

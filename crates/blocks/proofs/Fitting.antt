@@ -1,6 +1,6 @@
 -- What is known of every readable block and founding. Assumes nothing.
 use Rattle.std.proofs.Common.{◌≡◌, ℕ, ◌+◌, ◌*◌, ◌<◌, ◌≤◌, Bool, true, false, cond, ◌&&◌, eqb, ltb, leb, List, [], ◌∷◌, ◌++◌, length, get_or, sym, refl, ap, ◌∙◌, subst, arith}
-use Rattle.std.specs.List.{flat_map, AllByRecursion as All}
+use Rattle.std.specs.List.{flat_map, AllByRecursion}
 use Rattle.std.proofs.lemmas.List.{append-nil, length-append, length-take, length-drop}
 use Rattle.std.proofs.ByRecursion.{All-push}
 use Rattle.std.proofs.lemmas.Bool.{cond-true, false≢true, eqb-true, ltb-true, ltb-false, le-leb, eq-eqb}
@@ -31,7 +31,7 @@ every_append p (x ∷ xs) ys h k =
 
 -- what holds of the parts of each command in range
 every_joined : {X : Type 0} (p : X → Bool) (f : Cmd → List X) → ((c : Cmd) → fit c ≡ true → every p (f c) ≡ true)
-    → (cs : List Cmd) → All (λ c. fit c ≡ true) cs → every p (flat_map f cs) ≡ true
+    → (cs : List Cmd) → AllByRecursion (λ c. fit c ≡ true) cs → every p (flat_map f cs) ≡ true
 every_joined p f h [] a = refl
 every_joined p f h (c ∷ cs) a = every_append p (f c) (flat_map f cs) (h c a.0) (every_joined p f h cs a.1)
 
@@ -119,7 +119,7 @@ every_weaker p q h (x ∷ xs) e =
 climb : (l : List ℕ) (r : ℕ) → r ≤ 56
     → ((v w : Volume) → lower l (pair v) ≡ true → lower (pair v) (pair w) ≡ true → lower l (pair w) ≡ true)
     → ((v : Volume) → is_pair v.sold v.bought ≡ true → lower l (pair v) ≡ true → r + 1 ≤ rank_of v.sold v.bought)
-    → (cs : List Cmd) → All (λ c. fit c ≡ true) cs → InTurn (is_volume_above l) cs → Rises l r cs
+    → (cs : List Cmd) → AllByRecursion (λ c. fit c ≡ true) cs → InTurn (is_volume_above l) cs → Rises l r cs
 climb l r b tr up [] a t = quiet l r [] b (refl, refl)
 climb l r b tr up (begin h p ∷ cs) a t = absurd (false≢true t.0)
 climb l r b tr up (price x p ∷ cs) a t = absurd (false≢true t.0)
@@ -141,7 +141,7 @@ climb l r b tr up (found g ∷ cs) a t = absurd (false≢true t.0)
 climb l r b tr up (end ∷ []) a t = quiet l r (end ∷ []) b (refl, refl)
 climb l r b tr up (end ∷ c ∷ cs) a t = absurd (false≢true t.1.0)
 
-climb_all : (cs : List Cmd) → All (λ c. fit c ≡ true) cs → InTurn (is_volume_above []) cs → Rises [] 0 cs
+climb_all : (cs : List Cmd) → AllByRecursion (λ c. fit c ≡ true) cs → InTurn (is_volume_above []) cs → Rises [] 0 cs
 climb_all = climb [] 0 (omega arith) (λ v w p q. refl) (λ v i p. (rank_bound v.sold v.bought i).0)
 
 -- From the price of the asset x on: as many prices as are left, then volumes.
@@ -156,7 +156,7 @@ retold p q h [] t = tt
 retold p q h (c ∷ cs) t = (sym (h c) ∙ t.0, t.1)
 
 -- one price, and what comes after it
-priced_next : (cs : List Cmd) (x p : ℕ) (b : Bool) → ltb x 7 ≡ b → x < 8 → All (λ c. fit c ≡ true) cs
+priced_next : (cs : List Cmd) (x p : ℕ) (b : Bool) → ltb x 7 ≡ b → x < 8 → AllByRecursion (λ c. fit c ≡ true) cs
     → (InTurn (is_price_of (x + 1)) (cs ++ end ∷ []) → Priced (x + 1) cs)
     → InTurn (λ c. cond b (is_price_of (x + 1) c) (is_volume_above [] c)) (cs ++ end ∷ []) → Priced x (price x p ∷ cs)
 priced_next cs x p true e l a more t =
@@ -173,7 +173,7 @@ priced_next cs x p false e l a more t =
       few = omega (arith, n.few, ap length vs);
     }
 
-priced : (cs : List Cmd) (x : ℕ) → All (λ c. fit c ≡ true) cs → InTurn (is_price_of x) (cs ++ end ∷ []) → Priced x cs
+priced : (cs : List Cmd) (x : ℕ) → AllByRecursion (λ c. fit c ≡ true) cs → InTurn (is_price_of x) (cs ++ end ∷ []) → Priced x cs
 priced [] x a t = absurd (false≢true t.0)
 priced (begin h p ∷ cs) x a t = absurd (false≢true t.0)
 priced (price y p ∷ cs) x a t =
@@ -211,7 +211,7 @@ turn_front : (opens : Cmd → Bool) (cs ds : List Cmd) → InTurn opens (cs ++ d
 turn_front opens [] ds t = tt
 turn_front opens (c ∷ cs) ds t = (t.0, turn_front (follows c) cs ds t.1)
 
-all_front : {X : Type 0} (P : X → Type 0) (xs ys : List X) → All P (xs ++ ys) → All P xs
+all_front : {X : Type 0} (P : X → Type 0) (xs ys : List X) → AllByRecursion P (xs ++ ys) → AllByRecursion P xs
 all_front P [] ys a = tt
 all_front P (x ∷ xs) ys a = (a.0, all_front P xs ys a.1)
 

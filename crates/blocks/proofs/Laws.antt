@@ -1,6 +1,6 @@
 -- Bytes are read one way: they say one block or founding at most, or have one fault. Assumes nothing.
 use Rattle.std.proofs.Common.{◌≡◌, ℕ, zero, suc, ◌+◌, ◌<◌, ◌≤◌, Bool, true, false, cond, not, ◌&&◌, ltb, leb, ◌⊎◌, List, [], ◌∷◌, ◌++◌, length, sym, refl, ap, ◌∙◌, subst, inl, inr, ⊎_elim, arith}
-use Rattle.std.specs.List.{HoldsAt, ContainsAt as Has, flat_map, AllByRecursion as All}
+use Rattle.std.specs.List.{HoldsAt, ContainsAt as Has, flat_map, AllByRecursion}
 use Rattle.std.proofs.lemmas.List.{append-nil, append_assoc, length-append, same_from_push}
 use Rattle.std.proofs.ByRecursion.{has_push}
 use Rattle.std.proofs.lemmas.Bool.{false≢true, both_ways}
@@ -38,7 +38,7 @@ turn_at : (opens : Cmd → Bool) (cs : List Cmd) (e : Cmd) (es : List Cmd) → I
 turn_at opens [] e es t = t.0
 turn_at opens (c ∷ cs) e es t = turn_at (follows c) cs e es t.1
 
-all_at : {X : Type 0} (P : X → Type 0) (xs : List X) (y : X) (ys : List X) → All P (xs ++ y ∷ ys) → P y
+all_at : {X : Type 0} (P : X → Type 0) (xs : List X) (y : X) (ys : List X) → AllByRecursion P (xs ++ y ∷ ys) → P y
 all_at P [] y ys a = a.0
 all_at P (x ∷ xs) y ys a = all_at P xs y ys a.1
 

@@ -1,6 +1,6 @@
 -- Which bytes are a readable block or founding, what they say, and which fault any other bytes have. Assumes nothing.
 use Rattle.std.specs.Prelude.{◌≡◌, ℕ, ◌+◌, ◌<◌, ◌≤◌, Bool, true, false, cond, ◌&&◌, ◌⊎◌, List, [], ◌∷◌, ◌++◌, length, ◌==◌, nat_le, nat_lt}
-use Rattle.std.specs.List.{ContainsAt as Has, flat_map, AllByRecursion as All}
+use Rattle.std.specs.List.{ContainsAt as Has, flat_map, AllByRecursion}
 use Rattle.terms.specs.declared.Volume.{Volume}
 use Rattle.terms.specs.declared.Transaction.{Transaction}
 use Rattle.terms.specs.declared.Grant.{Grant}
@@ -143,7 +143,7 @@ grants end = []
 pub record Good (opens : Cmd → Bool) (bs : List ℕ) (cs : List Cmd) (at : ℕ) : Type 0 where
   pub stand : Stand bs 0 cs at
   pub turn : InTurn opens cs
-  pub ranges : All (λ c. fit c ≡ true) cs
+  pub ranges : AllByRecursion (λ c. fit c ≡ true) cs
   pub few : length (flat_map transactions cs) ≤ 1024
 
 -- The bytes are a readable block, and say b.

@@ -1,6 +1,6 @@
 -- No balance can pass the largest, and no sum of a block either. Assumes nothing.
 use Rattle.std.proofs.Common.{◌≡◌, ℕ, ◌+◌, ◌-◌, ◌*◌, ◌<◌, ◌≤◌, Bool, true, false, cond, ◌&&◌, eqb, List, [], ◌∷◌, get_or, None, sum_by, ap, ◌∙◌, subst, ap₂, inl, inr, arith}
-use Rattle.std.specs.List.{AllByRecursion as All}
+use Rattle.std.specs.List.{AllByRecursion}
 use Rattle.std.proofs.lemmas.List.Sums.{sum_by-cons}
 use Rattle.std.proofs.lemmas.Bool.{cases_Bool, cases_lt}
 use Rattle.std.proofs.ByRecursion.{All-weaker}
@@ -23,7 +23,7 @@ use Rattle.exchange.proofs.Keyed.{and_nest, eqb_sym}
 use Rattle.exchange.proofs.Fit.{Fit}
 use Rattle.exchange.proofs.Trades.{pair_of, moved, newly, undone, payers, receivers, cancellers, placers, traders, traded_once, traded_sum, filled_volumes, by_volumes, paid_within, sold_within}
 
-sub_sum : {X : Type 0} (f g : X → ℕ) (xs : List X) → All (λ x. g x ≤ f x) xs → sum_by (λ x. f x - g x) xs + sum_by g xs ≡ sum_by f xs
+sub_sum : {X : Type 0} (f g : X → ℕ) (xs : List X) → AllByRecursion (λ x. g x ≤ f x) xs → sum_by (λ x. f x - g x) xs + sum_by g xs ≡ sum_by f xs
 sub_sum f g [] a = omega arith
 sub_sum f g (x ∷ xs) a = omega (arith, sum_by-cons (λ z. f z - g z) x xs, sum_by-cons f x xs, sum_by-cons g x xs, sub_sum f g xs a.1, a.0)
 
@@ -36,7 +36,7 @@ module _ (s : State) (b : Block) (so : Owned s) (clean : Verdict s b None) where
   once_standing n h = omega (arith, h, rising_one name s.store.accounts so.ordered.accounts (n ∷ []))
 
   -- a sum over the accounts of what each has of a list, where every owner stands, is the sum over the list
-  spread : {Y : Type 0} (own : Y → ℕ) (q : Y → Bool) (v : Y → ℕ) (ys : List Y) → All (λ y. 0 < standing s.store (own y)) ys
+  spread : {Y : Type 0} (own : Y → ℕ) (q : Y → Bool) (v : Y → ℕ) (ys : List Y) → AllByRecursion (λ y. 0 < standing s.store (own y)) ys
       → sum_by (λ a. sum_by (λ y. cond (eqb (own y) a.number && q y) (v y) 0) ys) s.store.accounts ≡ sum_by (λ y. cond (q y) (v y) 0) ys
   spread {Y} own q v ys h =
       swapped (λ a y. cond (eqb (own y) a.number && q y) (v y) 0) s.store.accounts ys

@@ -1,6 +1,6 @@
 -- A block without fault is cleared: nothing is refused, and what is left is what a commit leaves. Assumes nothing.
 use Rattle.std.proofs.Common.{◌≡◌, ℕ, ◌+◌, ◌<◌, ◌≤◌, Bool, true, false, cond, ◌&&◌, eqb, List, length, get_or, None, sum_by, filter, sym, refl, ap, ◌∙◌, subst, ap₂, inl, inr, arith}
-use Rattle.std.specs.List.{ContainsAt as Has, flat_map, AllByRecursion as All}
+use Rattle.std.specs.List.{ContainsAt as Has, flat_map, AllByRecursion}
 use Rattle.std.proofs.lemmas.List.Sums.{sum_by-append}
 use Rattle.std.proofs.lemmas.Bool.{cases_lt, eqb-true, and_parts}
 use Rattle.std.proofs.ByRecursion.{All-weaker, All-append, all_kept_by, all-has}
@@ -47,7 +47,7 @@ passed true v h = refl
 passed false v h = absurd (omega arith)
 
 -- a sum of parts of one account and one asset that is above 0: such an account and asset is among them
-some_slot : {X : Type 0} (owner asset : X → ℕ) (v : X → ℕ) (P : ℕ → Type 0) (Q : ℕ → Type 0) (xs : List X) → All (λ y. P (owner y)) xs → All (λ y. Q (asset y)) xs
+some_slot : {X : Type 0} (owner asset : X → ℕ) (v : X → ℕ) (P : ℕ → Type 0) (Q : ℕ → Type 0) (xs : List X) → AllByRecursion (λ y. P (owner y)) xs → AllByRecursion (λ y. Q (asset y)) xs
     → (n x : ℕ) → 0 < sum_by (λ y. cond (eqb (owner y) n && eqb (asset y) x) (v y) 0) xs → P n × Q x
 some_slot owner asset v P Q xs p q n x h =
     let (y, m, l) = some_of (λ y. cond (eqb (owner y) n && eqb (asset y) x) (v y) 0) xs h in

@@ -1,6 +1,6 @@
 -- Offers that leave and enter a book. Assumes nothing.
 use Rattle.std.specs.Prelude.{◌≡◌, ℕ, ◌+◌, ◌<◌, ◌≤◌, true, cond, List, length, Result, MatchResult, ◌==◌}
-use Rattle.std.specs.List.{AllByRecursion as All}
+use Rattle.std.specs.List.{AllByRecursion}
 use Rattle.terms.specs.declared.Fault.{Fault}
 use Rattle.terms.specs.declared.Key.{Key}
 use Rattle.terms.specs.declared.Offer.{Offer}
@@ -26,14 +26,14 @@ pub record Entered (os : List Offer) (s t : Book) : Type 0 where
 
 -- What lets them leave: each stands, and is there once.
 pub record CanLeave (ks : List Key) (s : Book) : Type 0 where
-  pub stand : All (λ k. 0 < amount_at s.offers k) ks
+  pub stand : AllByRecursion (λ k. 0 < amount_at s.offers k) ks
   pub once : (k : Key) → times ks k ≤ 1
 
 -- What lets them enter: none stands, each is there once and in range, and the book has room for all.
 pub record CanEnter (os : List Offer) (s : Book) : Type 0 where
-  pub fresh : All (λ o. amount_at s.offers o.key ≡ 0) os
+  pub fresh : AllByRecursion (λ o. amount_at s.offers o.key ≡ 0) os
   pub once : (k : Key) → under place (λ _. 1) os (words k) ≤ 1
-  pub good : All (λ o. fit_offer o ≡ true) os
+  pub good : AllByRecursion (λ o. fit_offer o ≡ true) os
   pub room : length s.offers + length os ≤ s.capacity
 
 -- They have left, or it is refused, and not all could leave.

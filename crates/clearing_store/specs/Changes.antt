@@ -1,7 +1,7 @@
 -- Balances, floors and accounts of a store that change by a block. Assumes nothing.
 -- s is the store before, t the store after.
 use Rattle.std.specs.Prelude.{◌≡◌, ℕ, ◌+◌, ◌-◌, ◌<◌, ◌≤◌, cond, ◌&&◌, ◌⊎◌, List, [], ◌∷◌, length, Some, None, sum_by, Option, Result, MatchResult, ◌==◌, ◌≢◌, nat_le}
-use Rattle.std.specs.List.{ContainsAt as Has, AllByRecursion as All}
+use Rattle.std.specs.List.{ContainsAt as Has, AllByRecursion}
 use Rattle.terms.specs.declared.Fault.{Fault}
 use Rattle.terms.specs.declared.Transaction.{Transaction}
 use Rattle.terms.specs.Order.{under}
@@ -46,7 +46,7 @@ pub record Bearable (s : Store) (m : Net Slot) : Type 0 where
 
 -- What lets all of them be applied: each that changes something can be, and no account has two nets of one asset.
 pub record CanApply (ns : List (Net Slot)) (s : Store) : Type 0 where
-  pub each : All (λ m. (m.plus ≢ m.minus) → Bearable s m) ns
+  pub each : AllByRecursion (λ m. (m.plus ≢ m.minus) → Bearable s m) ns
   pub once : (n x : ℕ) → under holder (λ _. 1) ns (n ∷ x ∷ []) ≤ 1
 
 -- They are applied, or it is refused, and not all could be applied.
@@ -64,13 +64,13 @@ pub record Raised (us : List Transaction) (s t : Store) : Type 0 where
   pub balances : (n x : ℕ) → balance_at t n x ≡ balance_at s n x
   -- no floor falls, and none stays below a number that was used
   pub grows : (n : ℕ) → floor_at s n ≤ floor_at t n
-  pub used : All (λ u. u.sequence ≤ floor_at t u.source) us
+  pub used : AllByRecursion (λ u. u.sequence ≤ floor_at t u.source) us
   -- a floor that has changed is a number that was used
   pub last : (n : ℕ) → (floor_at t n ≡ floor_at s n) ⊎ ((u : Transaction) × Has us u × (u.source ≡ n) × (floor_at t n ≡ u.sequence))
 
 -- What lets them rise: each source stands.
 abbrev pub CanRaise : List Transaction → Store → Type 0
-CanRaise us s = All (λ u. 0 < standing s u.source) us
+CanRaise us s = AllByRecursion (λ u. 0 < standing s u.source) us
 
 -- They have risen, or it is refused, and not all could.
 abbrev pub RaisedOr : List Transaction → Store → Store → Result (Unit {0}) Fault → Type 0
@@ -93,7 +93,7 @@ pub record AllOpened (ns : List ℕ) (s t : Store) : Type 0 where
 
 -- What lets them open: each is in range and does not stand, each is there once, and the store has room for all.
 pub record CanOpen (ns : List ℕ) (s : Store) : Type 0 where
-  pub each : All (λ n. (0 < n) × (n ≤ s.top) × (standing s n ≡ 0)) ns
+  pub each : AllByRecursion (λ n. (0 < n) × (n ≤ s.top) × (standing s n ≡ 0)) ns
   pub once : (n : ℕ) → times ns n ≤ 1
   pub room : length s.accounts + length ns ≤ s.capacity
 

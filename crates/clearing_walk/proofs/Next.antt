@@ -1,6 +1,6 @@
 -- The next key of a book: above the given key stands nothing below it. Assumes nothing.
 use Rattle.std.proofs.Common.{◌≡◌, ℕ, ◌<◌, true, false, cond, List, [], ◌∷◌, Some, None, Option, sym, ap, ◌∙◌, subst, inl, inr, arith}
-use Rattle.std.specs.List.{AllByRecursion as All}
+use Rattle.std.specs.List.{AllByRecursion}
 use Rattle.std.proofs.lemmas.List.Sums.{sum_by-cons}
 use Rattle.std.proofs.ByRecursion.{All-weaker}
 use Rattle.std.proofs.lemmas.Bool.{cond-true, cond-false, cases_Bool, both_ways, true≢false, false≢true}
@@ -29,7 +29,7 @@ elsewhere k o j p q =
       | inr e ↦ e
     ]
 
-none_above : (k : List ℕ) (os : List Offer) → [] ≡ above place os k → All (λ o. lower k (place o) ≡ false) os
+none_above : (k : List ℕ) (os : List Offer) → [] ≡ above place os k → AllByRecursion (λ o. lower k (place o) ≡ false) os
 none_above k [] e = tt
 none_above k (o ∷ os) e =
     elim (cases_Bool (lower k (place o))) [
@@ -37,7 +37,7 @@ none_above k (o ∷ os) e =
       | inr p ↦ (p, none_above k os (e ∙ cond-false (lower k (place o)) (place o) (above place os k) p))
     ]
 
-some_above : (k : Key) (os : List Offer) → Rising place os → All (λ o. 0 < o.amount) os → (n : Key) → words n ≡ above place os (words k)
+some_above : (k : Key) (os : List Offer) → Rising place os → AllByRecursion (λ o. 0 < o.amount) os → (n : Key) → words n ≡ above place os (words k)
     → NextKey os k (Some n)
 some_above k [] r a n e = absurd (true≢false (ap (lower []) e))
 some_above k (o ∷ os) r a n e =

@@ -1,6 +1,6 @@
 -- From pair to pair. Assumes nothing.
 use Rattle.std.proofs.Common.{◌≡◌, ℕ, zero, suc, ◌+◌, ◌-◌, ◌<◌, ◌≤◌, min, Bool, true, false, cond, ◌&&◌, eqb, ◌⊎◌, List, [], ◌∷◌, length, get_or, set, replicate, Ok, sum_by, sym, refl, ap, ◌∙◌, subst, ap₂, inl, inr, add-one, arith, get_or-set_other, get_or-set_same}
-use Rattle.std.specs.List.{AllByRecursion as All}
+use Rattle.std.specs.List.{AllByRecursion}
 use Rattle.std.proofs.lemmas.List.{get_or_default, get_or-replicate}
 use Rattle.std.proofs.lemmas.List.Sums.{sum_by-cons}
 use Rattle.std.proofs.lemmas.Bool.{cases_Bool, cases_eq, eq-eqb, ne_eqb, and_parts, ltb-true, true≢false}
@@ -107,7 +107,7 @@ module _ (s : State) (b : Block) where
               | inr (ex, ey) ↦ subst (λ c. lower c (words j) ≡ false) (ap₂ (λ m n. m ∷ n ∷ []) ex ey) p
             ]
           where
-            rises : (vs : List Volume) → Rising pair vs → All (λ v. (v.sold < 8) × (v.bought < 8)) vs → (i : ℕ) → i < length vs
+            rises : (vs : List Volume) → Rising pair vs → AllByRecursion (λ v. (v.sold < 8) × (v.bought < 8)) vs → (i : ℕ) → i < length vs
                 → lower (pair (get_or vs i last)) (pair (get_or vs (suc i) last)) ≡ true
             rises [] r a i l = absurd (omega arith)
             rises (v ∷ []) r a zero l = below v.sold v.bought a.0.0

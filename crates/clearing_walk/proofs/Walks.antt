@@ -1,7 +1,7 @@
 -- One turn of the walk over a pair. Assumes nothing.
 use Rattle.std.proofs.Common.{◌≡◌, ℕ, ◌+◌, ◌-◌, ◌*◌, ◌/◌, ◌<◌, ◌≤◌, min, Bool, true, false, cond, ◌&&◌, eqb, ◌⊎◌, List, sum_by, sym, refl, ap, ◌∙◌, subst, ap₂, inl, inr, arith}
 use native.Mathlib.Nat.{zero-div}
-use Rattle.std.specs.List.{AllByRecursion as All}
+use Rattle.std.specs.List.{AllByRecursion}
 use Rattle.std.proofs.lemmas.Bool.{cases_Bool, and_from, and_parts, eq-eqb, eqb-true}
 use Rattle.std.proofs.lemmas.Bool.Decides.{nat_tests}
 use Rattle.std.proofs.ByRecursion.{All-weaker, all-has}
@@ -78,7 +78,7 @@ module _ (s : State) (b : Block) where
         (All-weaker _ _ (λ o e. and_flip (eligible_in b k.sold k.bought o.key) (lower (place o) (words k)) (amount_at T o.key) o.amount e) T (lookup place (λ o. o.amount) T once))
 
     -- what holds of each traded offer's key holds of a key with an amount
-    pub traded : (P : Key → Type 0) → All (λ o. P o.key) T → (k : Key) → 0 < amount_at T k → P k
+    pub traded : (P : Key → Type 0) → AllByRecursion (λ o. P o.key) T → (k : Key) → 0 < amount_at T k → P k
     traded P h k some =
         let (z, m, p) = some_of (λ z. cond (same (place z) (words k)) z.amount 0) T some in
         let q : same (place z) (words k) ≡ true =

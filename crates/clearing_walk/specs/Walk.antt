@@ -3,7 +3,7 @@
 -- s is the state before the block, b the block, st₀ the account store before the walk, st and os the store and the offers
 -- of the book now. Assumes nothing.
 use Rattle.std.specs.Prelude.{◌≡◌, ℕ, ◌+◌, ◌-◌, ◌*◌, ◌/◌, ◌<◌, ◌≤◌, min, true, cond, ◌&&◌, List, [], ◌∷◌, length, Some, None, Ok, Err, sum_by, Option, Result, ◌==◌, slice_index, slice_index_or}
-use Rattle.std.specs.List.{AllByRecursion as All}
+use Rattle.std.specs.List.{AllByRecursion}
 use Rattle.terms.specs.declared.Fault.{Fault}
 use Rattle.terms.specs.declared.Key.{Key}
 use Rattle.terms.specs.declared.Offer.{Offer}
@@ -28,8 +28,8 @@ largest = 68719476735
 -- there is room for what is paid to each and to all.
 pub record Ready (s : State) (b : Block) (st : Store) : Type 0 where
   pub once : (z : Offer) → under place (λ _. 1) (trading s b) (place z) ≤ 1
-  pub limits : All (λ o. 0 < o.key.limit) (trading s b)
-  pub owners : All (λ o. 0 < standing s.store o.key.account) (trading s b)
+  pub limits : AllByRecursion (λ o. 0 < o.key.limit) (trading s b)
+  pub owners : AllByRecursion (λ o. 0 < standing s.store o.key.account) (trading s b)
   pub stand : (n : ℕ) → standing st n ≡ standing s.store n
   pub room : (n y : ℕ) → 0 < standing s.store n → y < 8 → balance_at st n y + payout s b n y ≤ largest
   pub paid : (y : ℕ) → y < 8 → paid_in s b y ≤ largest

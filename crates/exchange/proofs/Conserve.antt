@@ -1,6 +1,6 @@
 -- Over every life each asset adds up to what was founded, no more is paid than sold, and limits are kept. Assumes nothing.
 use Rattle.std.proofs.Common.{◌≡◌, ℕ, ◌+◌, ◌*◌, ◌<◌, true, cond, eqb, List, [], ◌∷◌, get_or, replicate, Ok, Err, sum_by, Result, sym, refl, ap, ◌∙◌, subst, arith}
-use Rattle.std.specs.List.{ContainsAt as Has, AllByRecursion as All}
+use Rattle.std.specs.List.{ContainsAt as Has, AllByRecursion}
 use Rattle.std.proofs.lemmas.List.Sums.{get_or-le-sum_by}
 use Rattle.std.proofs.lemmas.List.{get_or-replicate}
 use Rattle.std.proofs.lemmas.Bool.{eq-eqb}
@@ -37,7 +37,7 @@ module _ (s : State) (gs : List Grant) (t : State) (w : Founded s gs t) where
   abbrev grantee : Grant → List ℕ
   grantee g = g.account ∷ []
 
-  pub once_granted : All (λ g. standing t.store g.account ≡ 1) gs
+  pub once_granted : AllByRecursion (λ g. standing t.store g.account ≡ 1) gs
   once_granted = all_by_has _ gs go
     where
       go : (g : Grant) → Has gs g → standing t.store g.account ≡ 1
@@ -77,7 +77,7 @@ module _ (s : State) (gs : List Grant) (t : State) (w : Founded s gs t) where
       nothing = ap (λ rs. get_or rs x 0) w.remainders ∙ zeros x l
 
   pub founded_owned : Owned t
-  founded_owned = record { ordered = w.ordered; owners = subst (All _) (sym w.none) tt; numbers = subst (All _) (sym w.none) tt }
+  founded_owned = record { ordered = w.ordered; owners = subst (AllByRecursion _) (sym w.none) tt; numbers = subst (AllByRecursion _) (sym w.none) tt }
 
 -- at each event
 

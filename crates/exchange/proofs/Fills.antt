@@ -1,7 +1,7 @@
 -- Taken in key order until a volume is used, the parts add up to the volume or to all there is. Assumes nothing.
 use Rattle.std.proofs.Common.{◌≡◌, ℕ, ◌+◌, ◌-◌, min, true, false, cond, List, [], ◌∷◌, sum_by, sym, refl, ap, ◌∙◌, subst, inl, inr, arith}
 use mathlib.Core.Path.{fun_ext}
-use Rattle.std.specs.List.{AllByRecursion as All}
+use Rattle.std.specs.List.{AllByRecursion}
 use Rattle.std.proofs.lemmas.List.Sums.{sum_by-cons}
 use Rattle.std.proofs.lemmas.Bool.{cases_Bool, cond_both, both_ways}
 use Rattle.std.proofs.ByRecursion.{All-weaker}
@@ -30,12 +30,12 @@ module _ {X : Type 0} (key : X → List ℕ) where
   sorted_sum f [] = refl
   sorted_sum f (x ∷ xs) = omega (arith, insert_sum f x (sorted xs), sorted_sum f xs, sum_by-cons f x xs)
 
-  insert_all : (P : X → Type 0) (x : X) (ys : List X) → P x → All P ys → All P (insert x ys)
+  insert_all : (P : X → Type 0) (x : X) (ys : List X) → P x → AllByRecursion P ys → AllByRecursion P (insert x ys)
   insert_all P x [] p a = (p, tt)
   insert_all P x (y ∷ ys) p a =
-      cond_both (lower (key x) (key y)) (x ∷ y ∷ ys) (y ∷ insert x ys) (All P) (λ _. (p, a)) (λ _. (a.0, insert_all P x ys p a.1))
+      cond_both (lower (key x) (key y)) (x ∷ y ∷ ys) (y ∷ insert x ys) (AllByRecursion P) (λ _. (p, a)) (λ _. (a.0, insert_all P x ys p a.1))
 
-  insert_rising : (x : X) (ys : List X) → All (λ y. same (key y) (key x) ≡ false) ys → Rising key ys → Rising key (insert x ys)
+  insert_rising : (x : X) (ys : List X) → AllByRecursion (λ y. same (key y) (key x) ≡ false) ys → Rising key ys → Rising key (insert x ys)
   insert_rising x [] a r = (tt, tt)
   insert_rising x (y ∷ ys) a r =
       cond_both (lower (key x) (key y)) (x ∷ y ∷ ys) (y ∷ insert x ys) (Rising key)

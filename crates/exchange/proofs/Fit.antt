@@ -1,6 +1,6 @@
 -- What readable blocks are known to have, as facts. Assumes nothing.
 use Rattle.std.proofs.Common.{◌≡◌, ℕ, ◌<◌, Bool, true, eqb, ltb, leb, List, [], ◌∷◌, length, sym, subst}
-use Rattle.std.specs.List.{AllByRecursion as All}
+use Rattle.std.specs.List.{AllByRecursion}
 use Rattle.std.proofs.ByRecursion.{All-get_or, All-weaker}
 use Rattle.std.proofs.lemmas.Bool.{and_parts, ltb-true, eqb-true}
 use Rattle.terms.specs.declared.Volume.{Volume}
@@ -12,7 +12,7 @@ use Rattle.exchange.specs.Trade.{price}
 
 -- tests over lists
 
-pub all_from : {X : Type 0} (p : X → Bool) (xs : List X) → every p xs ≡ true → All (λ x. p x ≡ true) xs
+pub all_from : {X : Type 0} (p : X → Bool) (xs : List X) → every p xs ≡ true → AllByRecursion (λ x. p x ≡ true) xs
 all_from p [] e = tt
 all_from p (x ∷ xs) e = let (h, t) = and_parts (p x) (every p xs) e in (h, all_from p xs t)
 
@@ -27,8 +27,8 @@ pub record Fit (b : Block) : Type 0 where
   pub priced : (x : ℕ) → x < 8 → 0 < price b x
   pub eight : length b.prices ≡ 8
   pub pairs : Rising pair b.volumes
-  pub assets : All (λ v. (v.sold < 8) × (v.bought < 8)) b.volumes
-  pub transactions : All (λ t. fit_transaction t ≡ true) b.transactions
+  pub assets : AllByRecursion (λ v. (v.sold < 8) × (v.bought < 8)) b.volumes
+  pub transactions : AllByRecursion (λ t. fit_transaction t ≡ true) b.transactions
 
 assets_of : (v : Volume) → fit_volume v ≡ true → (v.sold < 8) × (v.bought < 8)
 assets_of v e =

@@ -1,6 +1,6 @@
 -- A founding makes a sound state, and a commit keeps it sound: ranges last, and there is room. Assumes nothing.
 use Rattle.std.proofs.Common.{◌≡◌, ℕ, ◌+◌, ◌*◌, ◌<◌, ◌≤◌, Bool, true, cond, eqb, leb, List, [], ◌∷◌, length, get_or, None, sum_by, count_by, filter, sym, refl, ap, ◌∙◌, subst, subst₂, inl, inr, arith}
-use Rattle.std.specs.List.{ContainsAt as Has, AllByRecursion as All}
+use Rattle.std.specs.List.{ContainsAt as Has, AllByRecursion}
 use Rattle.std.proofs.lemmas.List.{length-append}
 use Rattle.std.proofs.lemmas.Bool.{cases_Bool, cases_lt, cases_eq, and_parts, and_from, ltb-true, leb-true, lt-ltb, le-leb, eqb-true, eq-eqb}
 use Rattle.std.proofs.ByRecursion.{All-weaker, All-append, all_kept_by, all-has, All-from_get_or}
@@ -36,7 +36,7 @@ use Rattle.exchange.proofs.Running.{founded_keep}
 
 -- tests over lists, the other way
 
-every_from : {X : Type 0} (p : X → Bool) (xs : List X) → All (λ x. p x ≡ true) xs → every p xs ≡ true
+every_from : {X : Type 0} (p : X → Bool) (xs : List X) → AllByRecursion (λ x. p x ≡ true) xs → every p xs ≡ true
 every_from p [] a = refl
 every_from p (x ∷ xs) a = and_from (p x) (every p xs) a.0 (every_from p xs a.1)
 
@@ -47,7 +47,7 @@ rising_to key (x ∷ xs) r = and_from _ _ (every_from (λ y. lower (key x) (key 
 -- what a store and a book in range are known to have, and what makes them so
 
 record StoreFacts (s : Store) : Type 0 where
-  fit : All (λ a. fit_account s.top a ≡ true) s.accounts
+  fit : AllByRecursion (λ a. fit_account s.top a ≡ true) s.accounts
   room : length s.accounts ≤ s.capacity
   bound : leb s.capacity 65536 ≡ true
   top : is_word s.top ≡ true
@@ -66,7 +66,7 @@ store_sound s r f =
     (and_from _ _ (le-leb _ _ f.room) (and_from _ _ f.bound f.top)))
 
 record BookFacts (k : Book) : Type 0 where
-  fit : All (λ o. fit_offer o ≡ true) k.offers
+  fit : AllByRecursion (λ o. fit_offer o ≡ true) k.offers
   room : length k.offers ≤ k.capacity
   bound : leb k.capacity 65536 ≡ true
 
@@ -100,18 +100,18 @@ account_fits : (top : ℕ) (a : Account) → AccountFacts top a → length a.bal
 account_fits top a f e h =
     and_from _ _ f.number (and_from _ _ f.below (and_from _ _ f.floor (and_from _ _ (eq-eqb _ _ e) (every_from is_balance a.balances small))))
   where
-    small : All (λ v. is_balance v ≡ true) a.balances
+    small : AllByRecursion (λ v. is_balance v ≡ true) a.balances
     small = All-from_get_or _ a.balances 0 (λ i l. lt-ltb _ _ (omega (arith, h i (subst (λ n. i < n) e l))))
 
 -- what a transaction in range asks for is in range
 
-opens_fit : (a : Action) → fit_action a ≡ true → All (λ n. is_number n ≡ true) (opens a)
+opens_fit : (a : Action) → fit_action a ≡ true → AllByRecursion (λ n. is_number n ≡ true) (opens a)
 opens_fit (Create n) e = (e, tt)
 opens_fit (Pay r x n) e = tt
 opens_fit (Place x y l n) e = tt
 opens_fit (Cancel x y l q) e = tt
 
-places_fit : (n q : ℕ) (a : Action) → is_number n ≡ true → is_word q ≡ true → fit_action a ≡ true → All (λ o. fit_key o.key ≡ true) (places n q a)
+places_fit : (n q : ℕ) (a : Action) → is_number n ≡ true → is_word q ≡ true → fit_action a ≡ true → AllByRecursion (λ o. fit_key o.key ≡ true) (places n q a)
 places_fit n q (Create m) s w e = tt
 places_fit n q (Pay r x m) s w e = tt
 places_fit n q (Place x y l m) s w e =
@@ -174,7 +174,7 @@ balance_le s a h x = member_le (λ z. get_or z.balances x 0) s.store.accounts a 
 all_fit : (t : State) → Ordered t → ((x : ℕ) → x < 8 → free_of t.store x ≤ 68719476735)
     → ((n : ℕ) → 0 < standing t.store n → (is_number n ≡ true) × (leb n t.store.top ≡ true))
     → ((n : ℕ) → floor_at t.store n < 4294967296)
-    → All (λ a. fit_account t.store.top a ≡ true) t.store.accounts
+    → AllByRecursion (λ a. fit_account t.store.top a ≡ true) t.store.accounts
 all_fit t o free named floors = all_by_has _ t.store.accounts go
   where
     once : (f : Account → ℕ) (a : Account) → Has t.store.accounts a → under name f t.store.accounts (name a) ≡ f a
@@ -191,7 +191,7 @@ module _ (s : State) (b : Block) (so : Sound s) (clean : Verdict s b None) (fit 
   owned : Owned s
   owned = so.owned
 
-  facts : All TransactionFacts b.transactions
+  facts : AllByRecursion TransactionFacts b.transactions
   facts = All-weaker _ _ transaction_facts b.transactions fit.transactions
 
   old : StoreFacts s.store
@@ -237,7 +237,7 @@ module _ (s : State) (b : Block) (so : Sound s) (clean : Verdict s b None) (fit 
         | inr (u, m, k, e) ↦ omega (arith, e, ltb-true _ _ (all-has _ b.transactions u facts m).sequence)
       ]
 
-  accounts_fit : All (λ a. fit_account t.store.top a ≡ true) t.store.accounts
+  accounts_fit : AllByRecursion (λ a. fit_account t.store.top a ≡ true) t.store.accounts
   accounts_fit = all_fit t c.ordered (λ x l. omega (arith, total x l)) named new_floor
 
   accounts_room : length t.store.accounts ≤ t.store.capacity
@@ -266,7 +266,7 @@ module _ (s : State) (b : Block) (so : Sound s) (clean : Verdict s b None) (fit 
 
   -- the offers
 
-  keys_fit : All (λ o. fit_key o.key ≡ true) t.book.offers
+  keys_fit : AllByRecursion (λ o. fit_key o.key ≡ true) t.book.offers
   keys_fit =
       from_traded s b owned clean t c (λ k. fit_key k ≡ true)
       (All-append _ _ (placements b)
@@ -274,7 +274,7 @@ module _ (s : State) (b : Block) (so : Sound s) (clean : Verdict s b None) (fit 
       (all_joined _ placed b.transactions
       (All-weaker _ _ (λ u f. places_fit u.source u.sequence u.action f.source f.sequence f.action) b.transactions facts)))
 
-  offers_fit : All (λ o. fit_offer o ≡ true) t.book.offers
+  offers_fit : AllByRecursion (λ o. fit_offer o ≡ true) t.book.offers
   offers_fit = all_by_has _ t.book.offers go
     where
       go : (o : Offer) → Has t.book.offers o → fit_offer o ≡ true
@@ -311,7 +311,7 @@ module _ (s : State) (b : Block) (so : Sound s) (clean : Verdict s b None) (fit 
           )
 
       -- each cancelled key stands
-      stands : All (λ k. 1 ≤ under place (λ _. 1) s.book.offers (words k)) (cancellations b)
+      stands : AllByRecursion (λ k. 1 ≤ under place (λ _. 1) s.book.offers (words k)) (cancellations b)
       stands = all_joined _ cancelled b.transactions (all_by_has _ b.transactions (λ u m. all_by_has _ (cancelled u) (go u m)))
         where
           go : (u : Transaction) → Has b.transactions u → (k : Key) → Has (cancelled u) k → 1 ≤ under place (λ _. 1) s.book.offers (words k)
@@ -374,7 +374,7 @@ module _ (s : State) (b : Block) (so : Sound s) (clean : Verdict s b None) (fit 
 granted_number : (g : Grant) → fit_grant g ≡ true → is_number g.account ≡ true
 granted_number g e = (and_parts (is_number g.account) _ e).0
 
-module _ (s : State) (gs : List Grant) (fit : All (λ g. fit_grant g ≡ true) gs) (clean : FoundingVerdict s.store gs None)
+module _ (s : State) (gs : List Grant) (fit : AllByRecursion (λ g. fit_grant g ≡ true) gs) (clean : FoundingVerdict s.store gs None)
     (st : sound_store s.store ≡ true) (bk : sound_book s.book ≡ true) (t : State) (w : Founded s gs t) where
   founding_total : (x : ℕ) → x < 8 → free_of t.store x + offered_of t.book x + remainder t x ≤ 68719476735
   founding_total x l =
@@ -394,7 +394,7 @@ module _ (s : State) (gs : List Grant) (fit : All (λ g. fit_grant g ≡ true) g
         ],
       )
 
-  granted_fit : All (λ a. fit_account t.store.top a ≡ true) t.store.accounts
+  granted_fit : AllByRecursion (λ a. fit_account t.store.top a ≡ true) t.store.accounts
   granted_fit = all_fit t w.ordered (λ x l. omega (arith, founding_total x l)) grantee (λ n. omega (arith, w.unused n))
 
   granted_room : length t.store.accounts ≤ t.store.capacity
@@ -429,7 +429,7 @@ module _ (s : State) (gs : List Grant) (fit : All (λ g. fit_grant g ≡ true) g
           top = subst (λ n. is_word n ≡ true) (sym w.capacities.top) f.top;
         });
         book = book_sound t.book w.ordered.offers (record {
-          fit = subst (All _) (sym w.none) tt;
+          fit = subst (AllByRecursion _) (sym w.none) tt;
           room = omega (arith, ap length w.none);
           bound = subst (λ n. leb n 65536 ≡ true) (sym w.capacities.offers) o.bound;
         });

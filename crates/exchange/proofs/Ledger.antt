@@ -1,7 +1,7 @@
 -- A commit of a block without fault leaves the offers owned, and keeps of each asset the sum of free balances, offered amounts and
 -- remainder. Assumes nothing.
 use Rattle.std.proofs.Common.{◌≡◌, ℕ, ◌+◌, ◌*◌, ◌<◌, ◌≤◌, Bool, true, false, cond, ◌&&◌, eqb, List, [], ◌∷◌, get_or, None, sum_by, sym, refl, ap, ◌∙◌, subst, ap₂, subst₂, inl, inr, arith}
-use Rattle.std.specs.List.{AllByRecursion as All}
+use Rattle.std.specs.List.{AllByRecursion}
 use Rattle.std.proofs.lemmas.Bool.{cases_Bool, cases_eq}
 use Rattle.std.proofs.ByRecursion.{All-weaker, All-append, all_kept_by, all-has}
 use Rattle.terms.specs.declared.Key.{Key}
@@ -29,7 +29,7 @@ module _ (s : State) (b : Block) (so : Owned s) (clean : Verdict s b None) where
         omega (arith, c.stand n, rising_once name t.store.accounts c.ordered.accounts (record { number = n; floor = 0; balances = [] }))
 
     -- a sum over the accounts of what each has of a list, where every owner stands, is the sum over the list
-    spread : {Y : Type 0} (own : Y → ℕ) (q : Y → Bool) (v : Y → ℕ) (ys : List Y) → All (λ y. 0 < standing s.store (own y)) ys
+    spread : {Y : Type 0} (own : Y → ℕ) (q : Y → Bool) (v : Y → ℕ) (ys : List Y) → AllByRecursion (λ y. 0 < standing s.store (own y)) ys
         → sum_by (λ a. sum_by (λ y. cond (eqb (own y) a.number && q y) (v y) 0) ys) t.store.accounts ≡ sum_by (λ y. cond (q y) (v y) 0) ys
     spread {Y} own q v ys h =
         swapped (λ a y. cond (eqb (own y) a.number && q y) (v y) 0) t.store.accounts ys
@@ -85,7 +85,7 @@ module _ (s : State) (b : Block) (so : Owned s) (clean : Verdict s b None) where
 
     module _ (x : ℕ) (in8 : x < 8) where
       -- each offer that is left was traded
-      pub left : All (λ o. under place (λ _. 1) (trading s b) (place o) ≡ 1) t.book.offers
+      pub left : AllByRecursion (λ o. under place (λ _. 1) (trading s b) (place o) ≡ 1) t.book.offers
       left =
           all_2 _ go t.book.offers c.ordered.some
           (lookup place (λ o. o.amount) t.book.offers (rising_once place t.book.offers c.ordered.offers))
@@ -131,19 +131,19 @@ module _ (s : State) (b : Block) (so : Owned s) (clean : Verdict s b None) where
           | inr (x, m, k, e) ↦ omega (arith, e, fresh s b so clean x m, ap (floor_at s.store) k)
         ]
 
-    numbered : All (λ o. o.key.sequence ≤ floor_at t.store o.key.account) (trading s b)
+    numbered : AllByRecursion (λ o. o.key.sequence ≤ floor_at t.store o.key.account) (trading s b)
     numbered =
         All-append _ _ (placements b)
         (all_kept_by _ _ s.book.offers (All-weaker _ _ (λ o l. omega (arith, l, floor_grows o.key.account)) s.book.offers so.numbers))
         (all_joined _ placed b.transactions (all_by_has _ b.transactions (λ x m. go x (c.used x m))))
       where
-        go : (x : Transaction) → x.sequence ≤ floor_at t.store x.source → All (λ o. o.key.sequence ≤ floor_at t.store o.key.account) (placed x)
+        go : (x : Transaction) → x.sequence ≤ floor_at t.store x.source → AllByRecursion (λ o. o.key.sequence ≤ floor_at t.store o.key.account) (placed x)
         go x h =
             All-weaker _ _ (λ o e. subst₂ (λ q n. q ≤ floor_at t.store n) (sym e.1) (sym e.0) h) (placed x)
             (placed_by x.source x.sequence x.action)
 
     -- what holds of each traded key holds of each offer that is left
-    pub from_traded : (P : Key → Type 0) → All (λ o. P o.key) (trading s b) → All (λ o. P o.key) t.book.offers
+    pub from_traded : (P : Key → Type 0) → AllByRecursion (λ o. P o.key) (trading s b) → AllByRecursion (λ o. P o.key) t.book.offers
     from_traded P h = All-weaker _ _ go t.book.offers (left 0 (omega arith))
       where
         go : (o : Offer) → under place (λ _. 1) (trading s b) (place o) ≡ 1 → P o.key

@@ -1,6 +1,6 @@
 -- Lists whose keys rise: what stands under a key, and when two are equal. Sums in two ways. Assumes nothing.
 use Rattle.std.proofs.Common.{◌≡◌, ℕ, ◌+◌, ◌<◌, ◌≤◌, true, false, cond, List, [], ◌∷◌, sum_by, sym, refl, ap, ◌∙◌, ap₂, inl, inr, arith}
-use Rattle.std.specs.List.{AllByRecursion as All}
+use Rattle.std.specs.List.{AllByRecursion}
 use Rattle.std.proofs.lemmas.List.Sums.{sum_by-cons}
 use Rattle.std.proofs.lemmas.Bool.{cond-true, cond-false, cases_Bool}
 use Rattle.std.proofs.ByRecursion.{All-weaker}
@@ -9,15 +9,15 @@ use Rattle.terms.proofs.Order.{total, transitive, apart, same_refl}
 
 -- sums
 
-pub sum_by_zero : {X : Type 0} (f : X → ℕ) (xs : List X) → All (λ x. f x ≡ 0) xs → sum_by f xs ≡ 0
+pub sum_by_zero : {X : Type 0} (f : X → ℕ) (xs : List X) → AllByRecursion (λ x. f x ≡ 0) xs → sum_by f xs ≡ 0
 sum_by_zero f [] h = refl
 sum_by_zero f (x ∷ xs) h = omega (arith, sum_by-cons f x xs, sum_by_zero f xs h.1, h.0)
 
-pub sum_by_same : {X : Type 0} (f g : X → ℕ) (xs : List X) → All (λ x. f x ≡ g x) xs → sum_by f xs ≡ sum_by g xs
+pub sum_by_same : {X : Type 0} (f g : X → ℕ) (xs : List X) → AllByRecursion (λ x. f x ≡ g x) xs → sum_by f xs ≡ sum_by g xs
 sum_by_same f g [] h = refl
 sum_by_same f g (x ∷ xs) h = omega (arith, sum_by-cons f x xs, sum_by-cons g x xs, sum_by_same f g xs h.1, h.0)
 
-pub sum_by_grows : {X : Type 0} (f g : X → ℕ) (xs : List X) → All (λ x. f x ≤ g x) xs → sum_by f xs ≤ sum_by g xs
+pub sum_by_grows : {X : Type 0} (f g : X → ℕ) (xs : List X) → AllByRecursion (λ x. f x ≤ g x) xs → sum_by f xs ≤ sum_by g xs
 sum_by_grows f g [] h = omega arith
 sum_by_grows f g (x ∷ xs) h = omega (arith, sum_by-cons f x xs, sum_by-cons g x xs, sum_by_grows f g xs h.1, h.0)
 
@@ -26,7 +26,7 @@ sum_by_plus f g [] = refl
 sum_by_plus f g (x ∷ xs) =
     omega (arith, sum_by-cons f x xs, sum_by-cons g x xs, sum_by_plus f g xs, sum_by-cons (λ y. f y + g y) x xs)
 
-pub all_of : {X : Type 0} (P : X → Type 0) → ((x : X) → P x) → (xs : List X) → All P xs
+pub all_of : {X : Type 0} (P : X → Type 0) → ((x : X) → P x) → (xs : List X) → AllByRecursion P xs
 all_of P h [] = tt
 all_of P h (x ∷ xs) = (h x, all_of P h xs)
 
@@ -41,7 +41,7 @@ swapped g (x ∷ xs) ys =
     ∙ sum_by_same _ _ ys (all_of _ (λ y. sym (sum_by-cons (λ z. g z y) x xs)) ys)
 
 module _ {X : Type 0} (key : X → List ℕ) where
-  pub absent : (f : X → ℕ) (xs : List X) (k : List ℕ) → All (λ y. lower k (key y) ≡ true) xs → under key f xs k ≡ 0
+  pub absent : (f : X → ℕ) (xs : List X) (k : List ℕ) → AllByRecursion (λ y. lower k (key y) ≡ true) xs → under key f xs k ≡ 0
   absent f xs k h = sum_by_zero _ xs (All-weaker _ _ (λ y p. cond-false _ (f y) 0 (apart k (key y) p)) xs h)
 
   pub absent_below : (f : X → ℕ) (y : X) (ys : List X) (k : List ℕ) → Rising key (y ∷ ys) → lower k (key y) ≡ true → under key f (y ∷ ys) k ≡ 0
@@ -54,7 +54,7 @@ module _ {X : Type 0} (key : X → List ℕ) where
   -- two lists are equal where they hold the same under each key: F i x are the numbers of an entry x, one of them above 0
   module _ {I : Type 0} (F : I → X → ℕ) (P : X → Type 0) (i₀ : I) (some : (x : X) → P x → 0 < F i₀ x)
       (whole : (x y : X) → P x → P y → key x ≡ key y → ((i : I) → F i x ≡ F i y) → x ≡ y) where
-    pub alike : (xs ys : List X) → Rising key xs → Rising key ys → All P xs → All P ys
+    pub alike : (xs ys : List X) → Rising key xs → Rising key ys → AllByRecursion P xs → AllByRecursion P ys
         → ((i : I) (z : X) → under key (F i) xs (key z) ≡ under key (F i) ys (key z))
         → xs ≡ ys
     alike [] [] r q a b each = refl

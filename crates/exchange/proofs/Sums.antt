@@ -1,6 +1,6 @@
 -- Sums over lists whose keys stand once each. Assumes nothing.
 use Rattle.std.proofs.Common.{◌≡◌, ℕ, ◌+◌, ◌*◌, ◌<◌, ◌≤◌, Bool, true, false, cond, List, [], ◌∷◌, length, sum_by, filter, sym, refl, ap, ◌∙◌, inl, inr, arith}
-use Rattle.std.specs.List.{ContainsAt as Has, flat_map, AllByRecursion as All}
+use Rattle.std.specs.List.{ContainsAt as Has, flat_map, AllByRecursion}
 use Rattle.std.proofs.lemmas.List.Sums.{sum_by-cons, sum_by-append, get_or-le-sum_by}
 use Rattle.std.proofs.lemmas.Bool.{cond-true, cond-false, cases_Bool, cases_lt}
 use Rattle.std.proofs.ByRecursion.{All-weaker, All-append, all_has_itself, has_append_right}
@@ -14,15 +14,15 @@ if_true b x y e = cond-true b x y e
 pub if_false : (b : Bool) (x y : ℕ) → b ≡ false → cond b x y ≡ y
 if_false b x y e = cond-false b x y e
 
-pub all_2 : {X : Type 0} {P Q : X → Type 0} (R : X → Type 0) → ((x : X) → P x → Q x → R x) → (xs : List X) → All P xs → All Q xs → All R xs
+pub all_2 : {X : Type 0} {P Q : X → Type 0} (R : X → Type 0) → ((x : X) → P x → Q x → R x) → (xs : List X) → AllByRecursion P xs → AllByRecursion Q xs → AllByRecursion R xs
 all_2 R f [] a b = tt
 all_2 R f (x ∷ xs) a b = (f x a.0 b.0, all_2 R f xs a.1 b.1)
 
-pub all_joined : {X Y : Type 0} (P : Y → Type 0) (g : X → List Y) (xs : List X) → All (λ x. All P (g x)) xs → All P (flat_map g xs)
+pub all_joined : {X Y : Type 0} (P : Y → Type 0) (g : X → List Y) (xs : List X) → AllByRecursion (λ x. AllByRecursion P (g x)) xs → AllByRecursion P (flat_map g xs)
 all_joined P g [] a = tt
 all_joined P g (x ∷ xs) a = All-append P (g x) (flat_map g xs) a.0 (all_joined P g xs a.1)
 
-pub all_by_has : {X : Type 0} (P : X → Type 0) (xs : List X) → ((x : X) → Has xs x → P x) → All P xs
+pub all_by_has : {X : Type 0} (P : X → Type 0) (xs : List X) → ((x : X) → Has xs x → P x) → AllByRecursion P xs
 all_by_has P xs h = All-weaker (Has xs) P h xs (all_has_itself xs)
 
 pub sum_by_kept : {X : Type 0} (p : X → Bool) (f : X → ℕ) (xs : List X) → sum_by f (filter p xs) ≡ sum_by (λ x. cond (p x) (f x) 0) xs
@@ -68,7 +68,7 @@ module _ {X : Type 0} (key : X → List ℕ) where
   abbrev pub Once : List X → Type 0
   Once xs = (z : X) → under key (λ _. 1) xs (key z) ≤ 1
 
-  pub gone : (xs : List X) (k : List ℕ) → under key (λ _. 1) xs k ≡ 0 → All (λ x. same (key x) k ≡ false) xs
+  pub gone : (xs : List X) (k : List ℕ) → under key (λ _. 1) xs k ≡ 0 → AllByRecursion (λ x. same (key x) k ≡ false) xs
   gone [] k e = tt
   gone (x ∷ xs) k e =
       let c = sum_by-cons (λ y. cond (same (key y) k) 1 0) x xs in (
@@ -82,7 +82,7 @@ module _ {X : Type 0} (key : X → List ℕ) where
   pub once_less : (x : X) (xs : List X) → Once (x ∷ xs) → Once xs
   once_less x xs o z = omega (arith, o z, sum_by-cons (λ y. cond (same (key y) (key z)) 1 0) x xs)
 
-  pub lookup : (f : X → ℕ) (xs : List X) → Once xs → All (λ x. under key f xs (key x) ≡ f x) xs
+  pub lookup : (f : X → ℕ) (xs : List X) → Once xs → AllByRecursion (λ x. under key f xs (key x) ≡ f x) xs
   lookup f [] o = tt
   lookup f (x ∷ xs) o = (
     omega (arith, sum_by-cons (at f x) x xs, if_true _ (f x) 0 (same_refl (key x)), under_gone f xs (key x) none),

@@ -2,7 +2,7 @@
 -- than is sold. Assumes nothing.
 use Rattle.std.proofs.Common.{◌≡◌, ℕ, ◌+◌, ◌-◌, ◌*◌, ◌/◌, ◌<◌, ◌≤◌, min, Bool, true, false, cond, ◌&&◌, eqb, ltb, ◌⊎◌, List, [], ◌∷◌, None, sum_by, filter, sym, refl, ap, ◌∙◌, subst, ap₂, inl, inr, arith}
 use native.Mathlib.Nat.{mul-div-le, le_of_mul-le-mul_left}
-use Rattle.std.specs.List.{ContainsAt as Has, AllByRecursion as All}
+use Rattle.std.specs.List.{ContainsAt as Has, AllByRecursion}
 use Rattle.std.proofs.lemmas.List.Sums.{sum_by-append}
 use Rattle.std.proofs.lemmas.Bool.{cases_Bool, cases_lt, cases_eq, eqb-true, eq-eqb, ne_eqb, and_parts, and_from, and_right, ltb-true}
 use Rattle.std.proofs.ByRecursion.{All-weaker, All-append, all_kept_by}
@@ -47,19 +47,19 @@ sold_within s b k = go (eligible b k)
 
 -- whose a payment, a new offer and a cancelled key are
 
-pub paid_by : (n : ℕ) (a : Action) → All (λ p. p.payer ≡ n) (pays n a)
+pub paid_by : (n : ℕ) (a : Action) → AllByRecursion (λ p. p.payer ≡ n) (pays n a)
 paid_by n (Create m) = tt
 paid_by n (Pay r x m) = (refl, tt)
 paid_by n (Place x y l m) = tt
 paid_by n (Cancel x y l q) = tt
 
-pub placed_by : (n q : ℕ) (a : Action) → All (λ o. (o.key.account ≡ n) × (o.key.sequence ≡ q)) (places n q a)
+pub placed_by : (n q : ℕ) (a : Action) → AllByRecursion (λ o. (o.key.account ≡ n) × (o.key.sequence ≡ q)) (places n q a)
 placed_by n q (Create m) = tt
 placed_by n q (Pay r x m) = tt
 placed_by n q (Place x y l m) = ((refl, refl), tt)
 placed_by n q (Cancel x y l p) = tt
 
-pub cancelled_by : (n : ℕ) (a : Action) → All (λ k. k.account ≡ n) (cancels n a)
+pub cancelled_by : (n : ℕ) (a : Action) → AllByRecursion (λ k. k.account ≡ n) (cancels n a)
 cancelled_by n (Create m) = tt
 cancelled_by n (Pay r x m) = tt
 cancelled_by n (Place x y l m) = tt
@@ -116,12 +116,12 @@ module _ (s : State) (b : Block) (so : Owned s) (clean : Verdict s b None) where
         | inr p ↦ absurd (clean _ (faulty s b out_of_window x.source x.sequence (x, (m, refl, refl), p)))
       ]
 
-  pub payers : All (λ p. 0 < standing s.store p.payer) (payments b)
+  pub payers : AllByRecursion (λ p. 0 < standing s.store p.payer) (payments b)
   payers =
       all_joined _ paying b.transactions (all_by_has _ b.transactions
       (λ x m. All-weaker _ _ (λ p e. subst (λ n. 0 < standing s.store n) (sym e) (sources x m)) (paying x) (paid_by x.source x.action)))
 
-  pub receivers : All (λ p. 0 < standing s.store p.receiver) (payments b)
+  pub receivers : AllByRecursion (λ p. 0 < standing s.store p.receiver) (payments b)
   receivers = all_joined _ paying b.transactions (all_by_has _ b.transactions (λ x m. all_by_has _ (paying x) (go x m)))
     where
       go : (x : Transaction) → Has b.transactions x → (p : Payment) → Has (paying x) p → 0 < standing s.store p.receiver
@@ -131,17 +131,17 @@ module _ (s : State) (b : Block) (so : Owned s) (clean : Verdict s b None) where
             | inr l ↦ absurd (clean _ (faulty s b no_receiver x.source x.sequence (x, (m, refl, refl), (p, h, omega arith))))
           ]
 
-  pub cancellers : All (λ k. 0 < standing s.store k.account) (cancellations b)
+  pub cancellers : AllByRecursion (λ k. 0 < standing s.store k.account) (cancellations b)
   cancellers =
       all_joined _ cancelled b.transactions (all_by_has _ b.transactions
       (λ x m. All-weaker _ _ (λ k e. subst (λ n. 0 < standing s.store n) (sym e) (sources x m)) (cancelled x) (cancelled_by x.source x.action)))
 
-  pub placers : All (λ o. 0 < standing s.store o.key.account) (placements b)
+  pub placers : AllByRecursion (λ o. 0 < standing s.store o.key.account) (placements b)
   placers =
       all_joined _ placed b.transactions (all_by_has _ b.transactions
       (λ x m. All-weaker _ _ (λ o e. subst (λ n. 0 < standing s.store n) (sym e.0) (sources x m)) (placed x) (placed_by x.source x.sequence x.action)))
 
-  pub traders : All (λ o. 0 < standing s.store o.key.account) (trading s b)
+  pub traders : AllByRecursion (λ o. 0 < standing s.store o.key.account) (trading s b)
   traders = All-append _ _ (placements b) (all_kept_by _ _ s.book.offers so.owners) placers
 
   -- no key is traded twice
@@ -298,7 +298,7 @@ module _ (s : State) (b : Block) (so : Owned s) (clean : Verdict s b None) where
     once_priced = rising_once pair b.volumes f.pairs
 
     -- of each pair in the block the volume is sold
-    pub filled_volumes : All (λ v. under pair_of (λ o. sold s b o.key) (trading s b) (pair v) ≡ v.amount) b.volumes
+    pub filled_volumes : AllByRecursion (λ v. under pair_of (λ o. sold s b o.key) (trading s b) (pair v) ≡ v.amount) b.volumes
     filled_volumes =
         All-weaker _ _ (λ v e. filled_pair v.sold v.bought ∙ full v.sold v.bought ∙ e) b.volumes
         (lookup pair (λ v. v.amount) b.volumes once_priced)
@@ -310,7 +310,7 @@ module _ (s : State) (b : Block) (so : Owned s) (clean : Verdict s b None) where
     -- a sum over the traded offers is one over the volumes, where unsold offers count 0
     pub by_volumes : (p : Offer → Bool) (q : Volume → Bool) → ((o : Offer) (v : Volume) → pair_of o ≡ pair v → q v ≡ p o)
         → (F : Offer → ℕ) → ((o : Offer) → sold s b o.key ≡ 0 → F o ≡ 0)
-        → (G : Volume → ℕ) → All (λ v. under pair_of F (trading s b) (pair v) ≡ G v) b.volumes
+        → (G : Volume → ℕ) → AllByRecursion (λ v. under pair_of F (trading s b) (pair v) ≡ G v) b.volumes
         → sum_by (λ o. cond (p o) (F o) 0) (trading s b) ≡ sum_by (λ v. cond (q v) (G v) 0) b.volumes
     by_volumes p q tied F unsold G each-is =
         sum_by_same _ _ (trading s b) (all_of _ each (trading s b))

@@ -1,6 +1,6 @@
 -- The worked cases on states and blocks. Assumes nothing.
 use Rattle.std.proofs.Common.{◌≡◌, ℕ, zero, suc, ◌+◌, ◌<◌, ◌≤◌, true, false, ◌⊎◌, List, [], ◌∷◌, Some, None, sym, refl, ap, ◌∙◌, subst, inl, inr, arith, lit<, lit≤}
-use Rattle.std.specs.List.{ContainsAt as Has, AllByRecursion as All}
+use Rattle.std.specs.List.{ContainsAt as Has, AllByRecursion}
 use Rattle.std.proofs.lemmas.Bool.Decides.{nat_tests}
 use Rattle.std.proofs.lemmas.Bool.{cases_eq, cases_Bool, true≢false}
 use Rattle.std.proofs.ByRecursion.{all-has}
@@ -25,12 +25,12 @@ use Rattle.exchange.proofs.Trades.{sold_within}
 record Plain (b : Block) : Type 0 where
   height : b.height ≡ 1
   parent : b.parent ≡ start.own.digest
-  sources : All (λ t. 0 < standing start.store t.source) b.transactions
-  window : All (λ t. in_window (floor_at start.store t.source) t.sequence ≡ true) b.transactions
+  sources : AllByRecursion (λ t. 0 < standing start.store t.source) b.transactions
+  window : AllByRecursion (λ t. in_window (floor_at start.store t.source) t.sequence ≡ true) b.transactions
   once : (i j : ℕ) → under tag (λ _. 1) b.transactions (i ∷ j ∷ []) ≤ 1
-  receivers : All (λ t. All (λ p. 0 < standing start.store p.receiver) (paying t)) b.transactions
-  uncreated : All (λ t. created t ≡ []) b.transactions
-  uncancelled : All (λ t. cancelled t ≡ []) b.transactions
+  receivers : AllByRecursion (λ t. AllByRecursion (λ p. 0 < standing start.store p.receiver) (paying t)) b.transactions
+  uncreated : AllByRecursion (λ t. created t ≡ []) b.transactions
+  uncancelled : AllByRecursion (λ t. cancelled t ≡ []) b.transactions
 
 not_in_empty : {X : Type 0} (x : X) → Has [] x → ⊥
 not_in_empty x (k, l, _) = omega arith

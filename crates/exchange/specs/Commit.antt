@@ -1,6 +1,6 @@
 -- What a founding and a commit make of a state, and the digest of a state. Assumes nothing.
 use Rattle.std.specs.Prelude.{◌≡◌, ℕ, ◌+◌, ◌<◌, ◌≤◌, min, true, cond, ◌⊎◌, List, [], ◌∷◌, ◌++◌, length, replicate, sum_by, count_by, ◌==◌, ◌≢◌, nat_eq, slice_index}
-use Rattle.std.specs.List.{ContainsAt as Has, flat_map, AllByRecursion as All}
+use Rattle.std.specs.List.{ContainsAt as Has, flat_map, AllByRecursion}
 use Rattle.terms.specs.declared.Account.{Account}
 use Rattle.terms.specs.declared.Key.{Key}
 use Rattle.terms.specs.declared.Offer.{Offer}
@@ -42,15 +42,15 @@ digest_of s = sha256 (state_bytes s)
 pub record Ordered (s : State) : Type 0 where
   pub accounts : Rising name s.store.accounts
   pub offers : Rising place s.book.offers
-  pub eight : All (λ a. length a.balances ≡ 8) s.store.accounts
-  pub some : All (λ o. 0 < o.amount) s.book.offers
+  pub eight : AllByRecursion (λ a. length a.balances ≡ 8) s.store.accounts
+  pub some : AllByRecursion (λ o. 0 < o.amount) s.book.offers
   pub remainders : length s.own.remainders ≡ 8
 
 -- Each offer's account stands, and the offer's sequence number is one that the account has used.
 pub record Owned (s : State) : Type 0 where
   pub ordered : Ordered s
-  pub owners : All (λ o. 0 < standing s.store o.key.account) s.book.offers
-  pub numbers : All (λ o. o.key.sequence ≤ floor_at s.store o.key.account) s.book.offers
+  pub owners : AllByRecursion (λ o. 0 < standing s.store o.key.account) s.book.offers
+  pub numbers : AllByRecursion (λ o. o.key.sequence ≤ floor_at s.store o.key.account) s.book.offers
 
 -- What holds of every founded state between two calls: all numbers are in their ranges, accounts and offers do not exceed
 -- the capacities, each asset adds up to at most the largest amount, and the digest is that of the state.

@@ -1,6 +1,6 @@
 -- What is in trade under a key and ahead of it: what stands, less the cancelled, and what is newly placed. Assumes nothing.
 use Rattle.std.proofs.Common.{◌≡◌, ℕ, ◌+◌, ◌-◌, ◌*◌, ◌<◌, ◌≤◌, min, Bool, true, false, cond, ◌&&◌, eqb, ltb, leb, [], ◌∷◌, sum_by, filter, sym, refl, ap, ◌∙◌, inl, inr, mul-le-mul_right, arith}
-use Rattle.std.specs.List.{AllByRecursion as All}
+use Rattle.std.specs.List.{AllByRecursion}
 use Rattle.std.proofs.lemmas.Bool.Decides.{nat_tests}
 use Rattle.std.proofs.lemmas.Bool.{cases_Bool, cases_lt, both_ways, eqb-true, ne_eqb, le-leb, lt-leb, leb-true, lt-ltb, ltb-true, and_parts}
 use Rattle.std.proofs.lemmas.List.Sums.{sum_by-append}
@@ -89,7 +89,7 @@ numbers o e =
       ltb-true 0 k.account (and_parts (ltb 0 k.account) (is_word k.account) account).0,
     )
 
-pub standing_split : (bk : Book) (k : Key) → All (λ o. fit_offer o ≡ true) bk.offers
+pub standing_split : (bk : Book) (k : Key) → AllByRecursion (λ o. fit_offer o ≡ true) bk.offers
     → sum_ahead k bk.offers ≡ up_to bk k.sold k.bought (k.limit - 1) + between (k.sold ∷ k.bought ∷ k.limit ∷ 0 ∷ 0 ∷ []) (words k) bk.offers
 standing_split bk k fit =
     sum_by_same _ _ bk.offers

@@ -1,6 +1,6 @@
 -- Walking a rising book by its next key. Assumes nothing.
 use Rattle.std.proofs.Common.{◌≡◌, ℕ, ◌+◌, ◌*◌, ◌<◌, ◌≤◌, true, false, cond, ◌&&◌, List, [], ◌∷◌, sum_by, sym, ◌∙◌, subst, inl, inr, arith}
-use Rattle.std.specs.List.{AllByRecursion as All}
+use Rattle.std.specs.List.{AllByRecursion}
 use Rattle.std.proofs.lemmas.List.Sums.{sum_by-cons}
 use Rattle.std.proofs.lemmas.Bool.{cases_Bool, both_ways, cond-true, cond-false}
 use Rattle.std.proofs.ByRecursion.{All-weaker}
@@ -14,7 +14,7 @@ use Rattle.offers.proofs.Sound.{book_parts, offer_amount, part_fits}
 use Rattle.fills.specs.Ahead.{between}
 
 -- no key stands above l
-pub none_above : (os : List Offer) (l : List ℕ) → [] ≡ above place os l → All (λ o. lower l (place o) ≡ false) os
+pub none_above : (os : List Offer) (l : List ℕ) → [] ≡ above place os l → AllByRecursion (λ o. lower l (place o) ≡ false) os
 none_above [] l e = tt
 none_above (o ∷ os) l e =
     elim (cases_Bool (lower l (place o))) [
@@ -27,10 +27,10 @@ none_above (o ∷ os) l e =
 -- k is the lowest key above l: it stands, and no other stands between
 pub record Next (os : List Offer) (l k : List ℕ) : Type 0 where
   pub higher : lower l k ≡ true
-  pub lowest : All (λ o. lower l (place o) ≡ true → lower (place o) k ≡ false) os
+  pub lowest : AllByRecursion (λ o. lower l (place o) ≡ true → lower (place o) k ≡ false) os
   pub some : 0 < sum_by (λ o. cond (same (place o) k) o.amount 0) os
 
-pub next_above : (os : List Offer) → Rising place os → All (λ o. 0 < o.amount) os → (l : List ℕ) (k : Key) → words k ≡ above place os l → Next os l (words k)
+pub next_above : (os : List Offer) → Rising place os → AllByRecursion (λ o. 0 < o.amount) os → (l : List ℕ) (k : Key) → words k ≡ above place os l → Next os l (words k)
 next_above [] r a l k e = absurd (let z : ◌≡◌ {A = ℕ} 0 1 = cc in omega arith)
 next_above (o ∷ os) r a l k e =
     let more = sum_by-cons (λ z. cond (same (place z) (words k)) z.amount 0) o os in
@@ -101,7 +101,7 @@ ended l k h p a high near =
     ]
 
 module _ (os : List Offer) (l h : List ℕ) where
-  pub between_none : All (λ o. lower l (place o) ≡ false) os → between l h os ≡ 0
+  pub between_none : AllByRecursion (λ o. lower l (place o) ≡ false) os → between l h os ≡ 0
   between_none a = sum_by_zero _ os (All-weaker _ _ (λ o e. rw e (omega arith)) os a)
 
   module _ (k : Key) (n : Next os l (words k)) where

@@ -1,7 +1,7 @@
 -- Slots, order and buckets of a hashed store: what a probe's answer says of the accounts, and what an opening and a
 -- write leave. Assumes nothing.
 use Rattle.std.proofs.Common.{◌≡◌, ℕ, zero, suc, ◌+◌, ◌<◌, ◌≤◌, Bool, true, false, cond, eqb, ltb, List, [], ◌∷◌, map, length, get_or, take, drop, set, sum_by, sym, refl, ap, ◌∙◌, subst, inl, inr, arith}
-use Rattle.std.specs.List.{insert, AllByRecursion as All}
+use Rattle.std.specs.List.{insert, AllByRecursion}
 use Rattle.std.proofs.lemmas.List.{length-map, length-set, length-take-le, get_or-map, get_or_default, get_or-set_same, get_or-set_other, get_or-take, take-set-le}
 use Rattle.std.proofs.lemmas.List.Sums.{sum_by-cons, sum_by-append, sum_by-take-drop, sum_by_more, sum_by-set}
 use Rattle.std.proofs.ByRecursion.{All-weaker, All-get_or, All-take, All-drop}
@@ -23,11 +23,11 @@ use Rattle.hashed_store.specs.Probing.{has}
 
 -- lists and sums
 
-sum_by_same : {X : Type 0} (f g : X → ℕ) (xs : List X) → All (λ x. f x ≡ g x) xs → sum_by f xs ≡ sum_by g xs
+sum_by_same : {X : Type 0} (f g : X → ℕ) (xs : List X) → AllByRecursion (λ x. f x ≡ g x) xs → sum_by f xs ≡ sum_by g xs
 sum_by_same f g [] h = refl
 sum_by_same f g (x ∷ xs) h = omega (arith, sum_by-cons f x xs, sum_by-cons g x xs, sum_by_same f g xs h.1, h.0)
 
-all_of : {X : Type 0} (P : X → Type 0) → ((x : X) → P x) → (xs : List X) → All P xs
+all_of : {X : Type 0} (P : X → Type 0) → ((x : X) → P x) → (xs : List X) → AllByRecursion P xs
 all_of P h [] = tt
 all_of P h (x ∷ xs) = (h x, all_of P h xs)
 
@@ -42,7 +42,7 @@ sum_by_ones : {X : Type 0} (xs : List X) → sum_by (λ _. 1) xs ≡ length xs
 sum_by_ones [] = refl
 sum_by_ones (x ∷ xs) = omega (arith, sum_by-cons (λ _. 1) x xs, sum_by_ones xs)
 
-map_same : {X Y : Type 0} (f g : X → Y) (xs : List X) → All (λ x. f x ≡ g x) xs → map f xs ≡ map g xs
+map_same : {X Y : Type 0} (f g : X → Y) (xs : List X) → AllByRecursion (λ x. f x ≡ g x) xs → map f xs ≡ map g xs
 map_same f g [] h = refl
 map_same f g (x ∷ xs) h = ap (λ y. y ∷ map f xs) h.0 ∙ ap (λ l. g x ∷ l) (map_same f g xs h.1)
 
@@ -52,19 +52,19 @@ map_inserted f [] (suc i) x = refl
 map_inserted f (y ∷ ys) zero x = refl
 map_inserted f (y ∷ ys) (suc i) x = ap (λ l. f y ∷ l) (map_inserted f ys i x)
 
-all_take_map : {X Y : Type 0} (P : Y → Type 0) (f : X → Y) (i : ℕ) (xs : List X) → All (λ x. P (f x)) (take i xs) → All P (take i (map f xs))
+all_take_map : {X Y : Type 0} (P : Y → Type 0) (f : X → Y) (i : ℕ) (xs : List X) → AllByRecursion (λ x. P (f x)) (take i xs) → AllByRecursion P (take i (map f xs))
 all_take_map P f zero [] a = tt
 all_take_map P f (suc i) [] a = tt
 all_take_map P f zero (x ∷ xs) a = tt
 all_take_map P f (suc i) (x ∷ xs) a = (a.0, all_take_map P f i xs a.1)
 
-all_drop_map : {X Y : Type 0} (P : Y → Type 0) (f : X → Y) (i : ℕ) (xs : List X) → All (λ x. P (f x)) (drop i xs) → All P (drop i (map f xs))
+all_drop_map : {X Y : Type 0} (P : Y → Type 0) (f : X → Y) (i : ℕ) (xs : List X) → AllByRecursion (λ x. P (f x)) (drop i xs) → AllByRecursion P (drop i (map f xs))
 all_drop_map P f zero [] a = tt
 all_drop_map P f (suc i) [] a = tt
 all_drop_map P f zero (x ∷ xs) a = (a.0, all_drop_map P f zero xs a.1)
 all_drop_map P f (suc i) (x ∷ xs) a = all_drop_map P f i xs a
 
-all_from_map : {X Y : Type 0} (P : Y → Type 0) (f : X → Y) (xs : List X) → All P (map f xs) → All (λ x. P (f x)) xs
+all_from_map : {X Y : Type 0} (P : Y → Type 0) (f : X → Y) (xs : List X) → AllByRecursion P (map f xs) → AllByRecursion (λ x. P (f x)) xs
 all_from_map P f [] a = tt
 all_from_map P f (x ∷ xs) a = (a.0, all_from_map P f xs a.1)
 
@@ -143,7 +143,7 @@ module _ (slots : List Account) where
   abbrev Match : Entry → Type 0
   Match e = (lying slots e).number ≡ e.number
 
-  rising_tags : (es : List Entry) → All Match es → Rising name (map (lying slots) es) → Rising tag es
+  rising_tags : (es : List Entry) → AllByRecursion Match es → Rising name (map (lying slots) es) → Rising tag es
   rising_tags [] m r = tt
   rising_tags (e ∷ es) m r = (
     all_2 _ (λ z p q. subst (λ a. lower (a ∷ []) (z.number ∷ []) ≡ true) m.0 (subst (λ b. lower ((lying slots e).number ∷ []) (b ∷ []) ≡ true) p q)) es m.1
@@ -151,7 +151,7 @@ module _ (slots : List Account) where
     rising_tags es m.1 r.1,
   )
 
-  under_lying : (f : Account → ℕ) (es : List Entry) (n : ℕ) → All Match es
+  under_lying : (f : Account → ℕ) (es : List Entry) (n : ℕ) → AllByRecursion Match es
       → under name f (map (lying slots) es) (n ∷ []) ≡ under tag (λ e. f (lying slots e)) es (n ∷ [])
   under_lying f es n m =
       sum_by_map (λ a. cond (same (name a) (n ∷ [])) (f a) 0) (lying slots) es
@@ -168,7 +168,7 @@ module _ (slots : List Account) where
     elsewhere e ne = get_or-set_other slots s e.slot y blank ne
 
     -- one slot is written over: one account changes
-    map_set_one : (es : List Entry) (i : ℕ) (d : Entry) → s < length slots → i < length es → (get_or es i d).slot ≡ s → All Match es → Rising tag es
+    map_set_one : (es : List Entry) (i : ℕ) (d : Entry) → s < length slots → i < length es → (get_or es i d).slot ≡ s → AllByRecursion Match es → Rising tag es
         → map (lying (set slots s y)) es ≡ set (map (lying slots) es) i y
     map_set_one [] i d ls lt e m r = absurd (omega arith)
     map_set_one (x ∷ xs) zero d ls lt e m r =
@@ -181,7 +181,7 @@ module _ (slots : List Account) where
         (elsewhere x (λ q. apart_slots x (get_or xs i d) m.0 (All-get_or Match xs i d h m.1) (All-get_or (λ z. lower (tag x) (tag z) ≡ true) xs i d h r.0) (q ∙ sym e)))
         ∙ ap (λ l. lying slots x ∷ l) (map_set_one xs i d ls h e m.1 r.1)
 
-  above_lying : (es : List Entry) (k : List ℕ) → All Match es → above name (map (lying slots) es) k ≡ above tag es k
+  above_lying : (es : List Entry) (k : List ℕ) → AllByRecursion Match es → above name (map (lying slots) es) k ≡ above tag es k
   above_lying [] k m = refl
   above_lying (e ∷ es) k m =
       ap (λ n. cond (lower k (n ∷ [])) (n ∷ []) (above name (map (lying slots) es) k)) m.0
@@ -193,10 +193,10 @@ module _ (top len : ℕ) (slots : List Account) (buckets es : List Entry) (count
   pub ok : SoundStore (store_of top slots es)
   ok = store_parts (store_of top slots es) sound
 
-  laid_each : All (λ e. laid len slots e ≡ true) es
+  laid_each : AllByRecursion (λ e. laid len slots e ≡ true) es
   laid_each = every_all (laid len slots) es laid_all
 
-  matches : All (Match slots) es
+  matches : AllByRecursion (Match slots) es
   matches = All-weaker _ _ (λ e q. eqb-true _ _ (and_parts (ltb e.slot len) _ q).1) es laid_each
 
   pub up : Rising tag es
@@ -342,7 +342,7 @@ module _ (top len : ℕ) (slots : List Account) (buckets es : List Entry) (count
 
   -- a new account n in the next slot, with the bucket j and the place i in the order
   module _ (n i j : ℕ) (e : Entry) (num : e.number ≡ n) (at : e.slot ≡ len) (pos : 0 < n) (room : len < length slots) (gap : Gap tag es (n ∷ []) i) where
-    before : All (λ x. lying (set slots len (fresh n)) x ≡ lying slots x) es
+    before : AllByRecursion (λ x. lying (set slots len (fresh n)) x ≡ lying slots x) es
     before = All-weaker _ _ (λ x q. elsewhere slots len (fresh n) x (λ h. omega (arith, ltb-true _ _ (and_parts (ltb x.slot len) _ q).0))) es laid_each
 
     new_one : lying (set slots len (fresh n)) e ≡ fresh n

@@ -1,6 +1,6 @@
 -- The parts of a hashed store agree: at birth, and after an opening and a write. Assumes nothing.
 use Rattle.std.proofs.Common.{◌≡◌, ℕ, zero, suc, ◌+◌, ◌<◌, ◌≤◌, true, false, cond, ◌&&◌, eqb, ltb, leb, List, [], ◌∷◌, map, length, get_or, take, set, replicate, sum_by, sym, refl, ap, ◌∙◌, subst, arith}
-use Rattle.std.specs.List.{insert, AllByRecursion as All}
+use Rattle.std.specs.List.{insert, AllByRecursion}
 use Rattle.std.proofs.lemmas.List.{length-set, length-take-le}
 use Rattle.std.proofs.lemmas.List.Sums.{sum_by-cons}
 use Rattle.std.proofs.lemmas.Bool.{cond-true, cond-false, ne_eqb, and_from, lt-ltb, le-leb}
@@ -134,7 +134,7 @@ cleared top len k slots buckets order z b even roomy small lt =
         sums = λ f. ap (λ n. sum_by f (take n slots)) z ∙ sym (ap (λ es. sum_by f (map (lying slots) es)) none);
         sound = store_from (store_of top slots (take len order)) (record {
           up = subst (λ es. Rising name (map (lying slots) es)) (sym none) tt;
-          fit = subst (λ es. All (λ a. fit_account top a ≡ true) (map (lying slots) es)) (sym none) tt;
+          fit = subst (λ es. AllByRecursion (λ a. fit_account top a ≡ true) (map (lying slots) es)) (sym none) tt;
           few = omega (arith, ap (λ es. length (map (lying slots) es)) none);
           small = small;
           top = lt;

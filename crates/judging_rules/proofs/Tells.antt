@@ -1,6 +1,6 @@
 -- From what a report tells of transactions to a row. Assumes nothing.
 use Rattle.std.proofs.Common.{◌≡◌, ℕ, Bool, true, false, cond, not, ◌||◌, eqb, List, [], ◌∷◌, Result, sym, refl, subst, inl, inr, arith}
-use Rattle.std.specs.List.{ContainsAt as Has, AllByRecursion as All}
+use Rattle.std.specs.List.{ContainsAt as Has, AllByRecursion}
 use Rattle.std.proofs.lemmas.Bool.{cases_Bool}
 use Rattle.std.proofs.lemmas.Bool.Decides.{nat_tests}
 use Rattle.std.proofs.ByRecursion.{has_append_right, all-has, All-weaker}
@@ -24,7 +24,7 @@ any_has p (x ∷ xs) e =
 pub has_any : {X : Type 0} (p : X → Bool) (xs : List X) (x : X) → Has xs x → p x ≡ true → any p xs ≡ true
 has_any {X = X} p xs x m q = all-has (λ z. p z ≡ true → any p xs ≡ true) xs x (go xs) m q
   where
-    go : (ys : List X) → All (λ z. p z ≡ true → any p ys ≡ true) ys
+    go : (ys : List X) → AllByRecursion (λ z. p z ≡ true → any p ys ≡ true) ys
     go [] = tt
     go (y ∷ ys) = ((λ e. grind (arith, nat_tests)), All-weaker _ _ (λ z f e. let h : any p ys ≡ true = f e in grind (arith, nat_tests)) ys (go ys))
 

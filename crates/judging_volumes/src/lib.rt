@@ -4,7 +4,7 @@
 #![tactic(auto)]
 
 ghost use Rattle.std.specs.Prelude.{◌≡◌, ℕ, ◌*◌, ◌<◌, ◌≤◌, [], length, if◌then◌else◌, Err, nat_le, nat_lt, slice_index};
-ghost use Rattle.std.specs.List.{flat_map, AllByRecursion as All};
+ghost use Rattle.std.specs.List.{flat_map, AllByRecursion};
 ghost use Rattle.terms.specs.declared.Key.{Key};
 ghost use Rattle.terms.specs.Order.{Rising};
 ghost use Rattle.terms.specs.Holdings.{amount_at};
@@ -141,7 +141,7 @@ struct Supplied<'a, B> {
 impl<'a, B: OfferBook> Rule<Volume> for Supplied<'a, B> {
     ghost broken = { λ r v. nat_lt (supply (scene no_store (B.OfferBook.orders r.book.now).book 0 []) (deal r.prices.now [] r.transactions.now) v.sold v.bought) v.amount };
 
-    ghost ready = { λ r. Tallied spot (flat_map (trades r.prices.now (amount_at (B.OfferBook.orders r.book.now).book.offers)) r.transactions.now) r.nets.now × All Small r.nets.now × ((k : Key) → cancels_of (bundle r.transactions.now) k ≤ 1) };
+    ghost ready = { λ r. Tallied spot (flat_map (trades r.prices.now (amount_at (B.OfferBook.orders r.book.now).book.offers)) r.transactions.now) r.nets.now × AllByRecursion Small r.nets.now × ((k : Key) → cancels_of (bundle r.transactions.now) k ≤ 1) };
 
     fn breaks(&self, v: Volume) -> bool {
         let limit = highest_limit(self.prices, v.sold, v.bought);

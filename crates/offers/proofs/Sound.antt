@@ -1,6 +1,6 @@
 -- The tests of order and range of an offer book, as facts, and back. Assumes nothing.
 use Rattle.std.proofs.Common.{◌≡◌, ℕ, ◌*◌, ◌<◌, ◌≤◌, Bool, true, false, cond, length, sum_by, mul-le-mul_right, arith}
-use Rattle.std.specs.List.{AllByRecursion as All}
+use Rattle.std.specs.List.{AllByRecursion}
 use Rattle.std.proofs.ByRecursion.{All-weaker, sum_by_le}
 use Rattle.std.proofs.lemmas.Bool.{and_parts, and_from, ltb-true, leb-true, le-leb}
 use Rattle.terms.specs.declared.Offer.{Offer}
@@ -11,7 +11,7 @@ use Rattle.ordered.proofs.Rising.{every_all, all_every, rising_is, is_rising}
 
 pub record SoundBook (b : Book) : Type 0 where
   pub up : Rising place b.offers
-  pub fit : All (λ o. fit_offer o ≡ true) b.offers
+  pub fit : AllByRecursion (λ o. fit_offer o ≡ true) b.offers
   pub few : length b.offers ≤ b.capacity
   pub small : b.capacity ≤ 65536
 

@@ -1,7 +1,7 @@
 -- Rows in order: two lists of the same rows are equal once both are in order. Assumes nothing.
 use Rattle.std.proofs.Common.{◌≡◌, ℕ, suc, ◌+◌, ◌<◌, Bool, true, false, cond, eqb, ltb, List, [], ◌∷◌, length, get_or, Ordering, Less, Equal, Greater, sym, refl, ap, ◌∙◌, subst, inl, inr, arith}
 use native.Mathlib.Numerals.{unary_clauses}
-use Rattle.std.specs.List.{AllByRecursion as All}
+use Rattle.std.specs.List.{AllByRecursion}
 use Rattle.std.specs.List.Sorted.{IsPermutation, IsSortedWithin}
 use Rattle.std.specs.Cmp.{IsStrictWeakOrder}
 use Rattle.std.specs.Cmp.Lexicographic.{slice_cmp}
@@ -44,9 +44,9 @@ ranks = record { one_way = asymmetric; chain = chain }
 -- none of a list is below one before it
 abbrev Sorted : List (List ℕ) → Type 0
 Sorted [] = Unit {0}
-Sorted (k ∷ ks) = All (λ l. lower l k ≡ false) ks × Sorted ks
+Sorted (k ∷ ks) = AllByRecursion (λ l. lower l k ≡ false) ks × Sorted ks
 
-all_from : (P : List ℕ → Type 0) (ks : List (List ℕ)) → ((i : ℕ) (d : List ℕ) → i < length ks → P (get_or ks i d)) → All P ks
+all_from : (P : List ℕ → Type 0) (ks : List (List ℕ)) → ((i : ℕ) (d : List ℕ) → i < length ks → P (get_or ks i d)) → AllByRecursion P ks
 all_from P [] h = tt
 all_from P (k ∷ ks) h = (h 0 k (omega arith), all_from P ks (λ i d p. h (suc i) d (omega arith)))
 
@@ -65,7 +65,7 @@ count ks k = under (λ l. l) (λ _. 1) ks k
 missing : (k l : List ℕ) (ls : List (List ℕ)) → Sorted (l ∷ ls) → lower k l ≡ true → count (l ∷ ls) k ≡ 0
 missing k l ls s p = absent (λ l. l) (λ _. 1) (l ∷ ls) k (p, above ls s.0)
   where
-    above : (ms : List (List ℕ)) → All (λ m. lower m l ≡ false) ms → All (λ m. lower k m ≡ true) ms
+    above : (ms : List (List ℕ)) → AllByRecursion (λ m. lower m l ≡ false) ms → AllByRecursion (λ m. lower k m ≡ true) ms
     above [] h = tt
     above (m ∷ ms) h = (elim (cases_Bool (lower k m)) [ inl e ↦ e | inr e ↦ absurd (both_ways (lower k l) (chain k m l e h.0) p) ], above ms h.1)
 

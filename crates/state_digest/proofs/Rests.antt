@@ -1,6 +1,6 @@
 -- Going through a list whose keys rise, from each key to the next. Assumes nothing.
 use Rattle.std.proofs.Common.{◌≡◌, ℕ, ◌<◌, Bool, true, false, cond, List, [], ◌∷◌, ◌++◌, length, sym, refl, ap, ◌∙◌, subst, inl, inr, append_assoc, append-nil, arith}
-use Rattle.std.specs.List.{ContainsAt as Has, flat_map, AllByRecursion as All}
+use Rattle.std.specs.List.{ContainsAt as Has, flat_map, AllByRecursion}
 use Rattle.std.proofs.lemmas.Bool.Decides.{nat_tests}
 use Rattle.std.proofs.lemmas.Bool.{cases_Bool}
 use Rattle.std.proofs.ByRecursion.{All-weaker, all-has, has_append_right}
@@ -36,11 +36,11 @@ pub record Next {X : Type 0} (key : X → List ℕ) (xs : List X) (k l : List �
   pub more : rest key xs k ≡ entry ∷ rest key xs l
 
 module _ {X : Type 0} (key : X → List ℕ) where
-  pub rest_all : (xs : List X) (k : List ℕ) → All (λ x. lower k (key x) ≡ true) xs → rest key xs k ≡ xs
+  pub rest_all : (xs : List X) (k : List ℕ) → AllByRecursion (λ x. lower k (key x) ≡ true) xs → rest key xs k ≡ xs
   rest_all [] k a = refl
   rest_all (x ∷ xs) k a = kept _ x (rest key xs k) a.0 ∙ ap (λ ys. x ∷ ys) (rest_all xs k a.1)
 
-  pub rest_end : (xs : List X) (k : List ℕ) → All (λ x. key x ≡ [] → ⊥) xs → above key xs k ≡ [] → rest key xs k ≡ []
+  pub rest_end : (xs : List X) (k : List ℕ) → AllByRecursion (λ x. key x ≡ [] → ⊥) xs → above key xs k ≡ [] → rest key xs k ≡ []
   rest_end [] k a e = refl
   rest_end (x ∷ xs) k a e =
       elim (cases_Bool (lower k (key x))) [

@@ -1,6 +1,6 @@
 -- Effects added up, one by one. Assumes nothing.
 use Rattle.std.proofs.Common.{◌≡◌, ℕ, ◌+◌, ◌-◌, ◌^◌, ◌<◌, ◌≤◌, Bool, true, false, cond, List, [], ◌∷◌, ◌++◌, length, get_or, take, set, sym, refl, ap, ◌∙◌, subst, inl, inr, arith}
-use Rattle.std.specs.List.{AllByRecursion as All}
+use Rattle.std.specs.List.{AllByRecursion}
 use Rattle.std.proofs.lemmas.List.{take_more, take_more_set, get_or_default}
 use Rattle.std.proofs.lemmas.List.Sums.{sum_by_push, sum_by-cons}
 use Rattle.std.proofs.lemmas.Bool.{cases_Bool, both_ways, cond-true, cond-false}
@@ -58,16 +58,16 @@ module _ {K : Type 0} (w : K → List ℕ) where
   put_first to n e z l = take_more_set to n (net_of e) l ∙ (subst (λ k. take k to ++ net_of e ∷ [] ≡ added w (take k to) e) (sym z) refl)
 
   -- what holds of each entry
-  pub all_added : (P Q : Net K → Type 0) (ns : List (Net K)) (e : Effect K) → All P ns
-      → ((x : Net K) → P x → Q x) → Q (net_of e) → ((x : Net K) → P x → Q (with_more x e)) → All Q (added w ns e)
+  pub all_added : (P Q : Net K → Type 0) (ns : List (Net K)) (e : Effect K) → AllByRecursion P ns
+      → ((x : Net K) → P x → Q x) → Q (net_of e) → ((x : Net K) → P x → Q (with_more x e)) → AllByRecursion Q (added w ns e)
   all_added P Q [] e a o p q = (p, tt)
   all_added P Q (x ∷ []) e a o p q =
-      elim (lower (wn x) (we e)) as (λ t. All Q (cond t (x ∷ net_of e ∷ []) (with_more x e ∷ []))) [ true ↦ (o x a.0, (p, tt)) | false ↦ (q x a.0, tt) ]
+      elim (lower (wn x) (we e)) as (λ t. AllByRecursion Q (cond t (x ∷ net_of e ∷ []) (with_more x e ∷ []))) [ true ↦ (o x a.0, (p, tt)) | false ↦ (q x a.0, tt) ]
   all_added P Q (x ∷ (y ∷ ys)) e a o p q = (o x a.0, all_added P Q (y ∷ ys) e a.1 o p q)
 
   -- sums: f of an entry, h of an effect
   module _ (f : Net K → ℕ) (h : Effect K → ℕ) (one : (e : Effect K) → f (net_of e) ≡ h e) (more : (x : Net K) (e : Effect K) → f (with_more x e) ≡ f x + h e) where
-    under_added : (ns : List (Net K)) (e : Effect K) → All (λ x. lower (we e) (wn x) ≡ false) ns → (k : List ℕ)
+    under_added : (ns : List (Net K)) (e : Effect K) → AllByRecursion (λ x. lower (we e) (wn x) ≡ false) ns → (k : List ℕ)
         → under wn f (added w ns e) k ≡ under wn f ns k + cond (same (we e) k) (h e) 0
     under_added [] e a k = ap (λ n. 0 + cond (same (we e) k) n 0) (one e)
     under_added (x ∷ []) e a k =
@@ -88,12 +88,12 @@ module _ {K : Type 0} (w : K → List ℕ) where
         let g : Net K → ℕ = λ z. cond (same (wn z) k) (f z) 0 in
         omega (arith, sum_by-cons g x (added w (y ∷ ys) e), sum_by-cons g x (y ∷ ys), under_added (y ∷ ys) e a.1 k)
 
-    pub under_more : (es : List (Effect K)) (ns : List (Net K)) (e : Effect K) → All (λ x. lower (we e) (wn x) ≡ false) ns
+    pub under_more : (es : List (Effect K)) (ns : List (Net K)) (e : Effect K) → AllByRecursion (λ x. lower (we e) (wn x) ≡ false) ns
         → ((k : List ℕ) → under wn f ns k ≡ under we h es k) → (k : List ℕ) → under wn f (added w ns e) k ≡ under we h (es ++ e ∷ []) k
     under_more es ns e a s k =
         under_added ns e a k ∙ ap (λ n. n + cond (same (we e) k) (h e) 0) (s k) ∙ sym (sum_by_push (λ z. cond (same (we z) k) (h z) 0) es e)
 
-  rising_added : (ns : List (Net K)) (e : Effect K) → All (λ x. lower (we e) (wn x) ≡ false) ns → Rising wn ns → Rising wn (added w ns e)
+  rising_added : (ns : List (Net K)) (e : Effect K) → AllByRecursion (λ x. lower (we e) (wn x) ≡ false) ns → Rising wn ns → Rising wn (added w ns e)
   rising_added [] e a r = (tt, tt)
   rising_added (x ∷ []) e a r =
       elim (cases_Bool (lower (wn x) (we e))) [
@@ -113,7 +113,7 @@ module _ {K : Type 0} (w : K → List ℕ) where
                 absurd (both_ways (lower (we e) (wn y)) a.1.0 (subst (λ z. lower z (wn y) ≡ true) t r.0.0))
           ]
 
-  pub tallied_more : (es : List (Effect K)) (ns : List (Net K)) (e : Effect K) → All (λ x. lower (we e) (wn x) ≡ false) ns
+  pub tallied_more : (es : List (Effect K)) (ns : List (Net K)) (e : Effect K) → AllByRecursion (λ x. lower (we e) (wn x) ≡ false) ns
       → Tallied w es ns → Tallied w (es ++ e ∷ []) (added w ns e)
   tallied_more es ns e a t = record {
     rising = rising_added ns e a t.rising;
@@ -137,8 +137,8 @@ module _ {K : Type 0} (w : K → List ℕ) where
           ]
 
   pub merged_step : (es : List (Effect K)) (i : ℕ) (e : Effect K) (ns : List (Net K)) → i < length es → e ≡ get_or es i e → e.plus < 2 ^ 64 → e.minus < 2 ^ 64
-      → IsSortedWithin (λ x y. lower (we x) (we y)) es 0 (length es) → Tallied w (take i es) ns → All (Ahead w es i) ns
-      → Tallied w (take (i + 1) es) (added w ns e) × All (Ahead w es (i + 1)) (added w ns e)
+      → IsSortedWithin (λ x y. lower (we x) (we y)) es 0 (length es) → Tallied w (take i es) ns → AllByRecursion (Ahead w es i) ns
+      → Tallied w (take (i + 1) es) (added w ns e) × AllByRecursion (Ahead w es (i + 1)) (added w ns e)
   merged_step es i e ns l is p m up t a = (
     subst (λ z. Tallied w z (added w ns e)) (ap (λ z. take i es ++ z ∷ []) is ∙ sym (take_more es i e l))
         (tallied_more (take i es) ns e (All-weaker _ _ (λ x h. subst (λ z. lower (we z) (wn x) ≡ false) (sym is) (h.low i e (omega arith) l)) ns a) t),
@@ -152,5 +152,5 @@ module _ {K : Type 0} (w : K → List ℕ) where
       first : Ahead w es (i + 1) (net_of e)
       first = record { plus = omega arith; minus = omega arith; low = λ j d p q. subst (λ z. lower (we (get_or es j d)) (we z) ≡ false) (get_or_default es i d e l ∙ sym is) (sorted_far _ ranks_words es up i j d (omega arith) q) }
 
-  pub small_all : (es : List (Effect K)) (i : ℕ) (ns : List (Net K)) → i < 2 ^ 32 → All (Ahead w es i) ns → All Small ns
+  pub small_all : (es : List (Effect K)) (i : ℕ) (ns : List (Net K)) → i < 2 ^ 32 → AllByRecursion (Ahead w es i) ns → AllByRecursion Small ns
   small_all es i ns l a = All-weaker _ _ (λ x h. (omega (arith, h.plus), omega (arith, h.minus))) ns a

@@ -1,6 +1,6 @@
 -- The least of the places at which a test passes. Assumes nothing.
 use Rattle.std.specs.Prelude.{◌≡◌, ℕ, Bool, true, false, cond, List, [], ◌∷◌, Some, None, Ok, Err, Option, Result}
-use Rattle.std.specs.List.{ContainsAt as Has, AllByRecursion as All}
+use Rattle.std.specs.List.{ContainsAt as Has, AllByRecursion}
 use Rattle.terms.specs.declared.Fault.{Fault}
 use Rattle.terms.specs.Order.{lower}
 use Rattle.tally.specs.declared.rules.Place.{Place}
@@ -30,7 +30,7 @@ lesser_of (Some b) p = Some (cond (lower (spot p) (spot b)) p b)
 
 -- no entry passes the test, or this is the least place of those that do
 abbrev pub LeastPlace : {X : Type 0} (first second : X → ℕ) → (X → Bool) → List X → Option Place → Type 0
-LeastPlace first second p xs None = All (λ x. p x ≡ false) xs
+LeastPlace first second p xs None = AllByRecursion (λ x. p x ≡ false) xs
 LeastPlace first second p xs (Some b) =
     Broken first second p xs b.first b.second
-    × All (λ x. p x ≡ true → lower (first x ∷ second x ∷ []) (spot b) ≡ false) xs
+    × AllByRecursion (λ x. p x ≡ true → lower (first x ∷ second x ∷ []) (spot b) ≡ false) xs

@@ -2,7 +2,7 @@
 // Assumes nothing; at most MAX_ITEMS entries are gathered, and no memory is asked for.
 ghost use Rattle.std.specs.Prelude.{◌≡◌, ℕ, ◌+◌, ◌*◌, ◌^◌, ◌<◌, ◌≤◌, Bool, true, false, List, ◌++◌, length, take, MatchOption};
 ghost use Rattle.std.specs.Option.{option_to_list};
-ghost use Rattle.std.specs.List.{flat_map, AllByRecursion as All};
+ghost use Rattle.std.specs.List.{flat_map, AllByRecursion};
 ghost use Rattle.std.specs.List.Sorted.{IsSortedWithin};
 ghost use Rattle.terms.specs.Order.{lower, Rising, under};
 ghost use Rattle.tally.specs.Order.{order};
@@ -141,7 +141,7 @@ fn collect<X: Copy, K: SortKey, G: Gather<X, K>>(from: &G, xs: &[X], out: &mut [
 // One effect more, which is not below the last of the first `n` entries.
 fn add<K: SortKey>(to: &mut [Net<K>], n: usize, e: Effect<K>) -> usize
     requires room { n < length to.old }
-    requires small { All Small (take n to.old) }
+    requires small { AllByRecursion Small (take n to.old) }
     ensures nets { take result to.new ≡ added K.SortKey.rank (take n to.old) e }
     ensures most { result ≤ n + 1 }
     ensures fits { (e.plus < 2 ^ 64) × (e.minus < 2 ^ 64) }
@@ -172,7 +172,7 @@ fn merge<K: SortKey>(from: &[Effect<K>], to: &mut [Net<K>]) -> usize
     requires sorted { IsSortedWithin (λ x y. lower (K.SortKey.rank x.key) (K.SortKey.rank y.key)) from.now 0 (length from.now) }
     ensures within { result ≤ length from.now }
     ensures tallied { Tallied K.SortKey.rank from.now (take result to.new) }
-    ensures small { All Small (take result to.new) }
+    ensures small { AllByRecursion Small (take result to.new) }
 {
     let mut n: usize = 0;
     for e in from {
@@ -187,7 +187,7 @@ fn tally<K: SortKey>(from: &mut [Effect<K>], to: &mut [Net<K>]) -> usize
     requires few { length from.old < 2 ^ 32 }
     ensures within { result ≤ length from.old }
     ensures tallied { Tallied K.SortKey.rank from.old (take result to.new) }
-    ensures small { All Small (take result to.new) }
+    ensures small { AllByRecursion Small (take result to.new) }
 {
     from.sort_unstable();
     merge(from, to)
@@ -201,7 +201,7 @@ pub fn sums<X: Copy, K: SortKey, G: Gather<X, K>>(
     effects: &mut [Effect<K>],
     nets: &mut [Net<K>],
 ) -> Option<usize>
-    ensures { MatchOption result (roomy (length xs.now) (length effects.old) (length nets.old) ≡ false) (λ n. (roomy (length xs.now) (length effects.old) (length nets.old) ≡ true) × (n ≤ 2048) × Tallied K.SortKey.rank (flat_map (G.Gather.gives from.now) xs.now) (take n nets.new) × All Small (take n nets.new)) }
+    ensures { MatchOption result (roomy (length xs.now) (length effects.old) (length nets.old) ≡ false) (λ n. (roomy (length xs.now) (length effects.old) (length nets.old) ≡ true) × (n ≤ 2048) × Tallied K.SortKey.rank (flat_map (G.Gather.gives from.now) xs.now) (take n nets.new) × AllByRecursion Small (take n nets.new)) }
 {
     if xs.len() > MAX_ITEMS || effects.len() < MAX_EFFECTS || nets.len() < MAX_EFFECTS {
         return None;
@@ -214,7 +214,7 @@ pub fn sums<X: Copy, K: SortKey, G: Gather<X, K>>(
 pub fn look_up<K: SortKey>(nets: &[Net<K>], key: K) -> Net<K>
     ensures plus { Rising (λ n. K.SortKey.rank n.key) nets.now → result.plus ≡ under (λ n. K.SortKey.rank n.key) (λ n. n.plus) nets.now (K.SortKey.rank key) }
     ensures minus { Rising (λ n. K.SortKey.rank n.key) nets.now → result.minus ≡ under (λ n. K.SortKey.rank n.key) (λ n. n.minus) nets.now (K.SortKey.rank key) }
-    ensures small { All Small nets.now → Small result }
+    ensures small { AllByRecursion Small nets.now → Small result }
 {
     let mut low = 0;
     let mut high = nets.len();

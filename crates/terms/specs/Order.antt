@@ -1,6 +1,6 @@
 -- The order of accounts, offers and faults: by lists of numbers, compared in turn. Assumes nothing.
 use Rattle.std.specs.Prelude.{◌≡◌, ℕ, Bool, true, false, cond, ◌&&◌, List, [], ◌∷◌, sum_by, ◌==◌, nat_lt}
-use Rattle.std.specs.List.{AllByRecursion as All}
+use Rattle.std.specs.List.{AllByRecursion}
 use Rattle.terms.specs.declared.Account.{Account}
 use Rattle.terms.specs.declared.Key.{Key}
 use Rattle.terms.specs.declared.Offer.{Offer}
@@ -39,7 +39,7 @@ rank f = f.number ∷ f.first ∷ f.second ∷ []
 -- the keys rise, so that each stands once
 abbrev pub Rising : {X : Type 0} → (X → List ℕ) → List X → Type 0
 Rising key [] = Unit {0}
-Rising key (x ∷ xs) = All (λ y. lower (key x) (key y) ≡ true) xs × Rising key xs
+Rising key (x ∷ xs) = AllByRecursion (λ y. lower (key x) (key y) ≡ true) xs × Rising key xs
 
 -- the sum of f over the entries under the key k: where keys rise, f of the one entry there, or 0 where there is none
 abbrev pub under : {X : Type 0} → (X → List ℕ) → (X → ℕ) → List X → List ℕ → ℕ

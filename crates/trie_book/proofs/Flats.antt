@@ -1,6 +1,6 @@
 -- A trie as an offer book: what its descent finds is what the book means. Assumes nothing.
 use Rattle.std.proofs.Common.{◌≡◌, ℕ, ◌+◌, ◌-◌, ◌*◌, ◌^◌, ◌<◌, ◌≤◌, Bool, true, false, cond, ◌&&◌, eqb, ltb, leb, ◌⊎◌, List, [], ◌∷◌, length, Some, None, sum_by, Option, sym, refl, ap, ◌∙◌, subst, inl, inr, arith}
-use Rattle.std.specs.List.{AllByRecursion as All}
+use Rattle.std.specs.List.{AllByRecursion}
 use Rattle.std.proofs.lemmas.List.{length-append, nil_from_length}
 use Rattle.std.proofs.lemmas.List.Sums.{sum_by-cons, sum_by-append}
 use Rattle.std.proofs.ByRecursion.{All-append, All-weaker}
@@ -22,7 +22,7 @@ use Rattle.trie_book.specs.Codes.{code, key_of, Bits, flat, book_of, Starts}
 use Rattle.trie_book.proofs.Digits.{bits_of, code_key, code_small, key_code, same_code, lower_code, bits?}
 use Rattle.trie.proofs.Sides.{of_whole, held_above}
 
-pub sum_by_same : {X : Type 0} (f g : X → ℕ) (xs : List X) → All (λ x. f x ≡ g x) xs → sum_by f xs ≡ sum_by g xs
+pub sum_by_same : {X : Type 0} (f g : X → ℕ) (xs : List X) → AllByRecursion (λ x. f x ≡ g x) xs → sum_by f xs ≡ sum_by g xs
 sum_by_same f g [] h = refl
 sum_by_same f g (x ∷ xs) h = omega (arith, sum_by-cons f x xs, sum_by-cons g x xs, sum_by_same f g xs h.1, h.0)
 
@@ -32,7 +32,7 @@ sum_by_plus f g (x ∷ xs) = omega (arith, sum_by-cons f x xs, sum_by-cons g x x
 
 -- m stands, lies above k, and no key lies between
 pub above_from : {X : Type 0} (key : X → List ℕ) (xs : List X) (k m : List ℕ) → Rising key xs → lower k m ≡ true → 0 < under key (λ _. 1) xs m
-    → All (λ x. lower k (key x) ≡ true → lower (key x) m ≡ false) xs → above key xs k ≡ m
+    → AllByRecursion (λ x. lower k (key x) ≡ true → lower (key x) m ≡ false) xs → above key xs k ≡ m
 above_from key [] k m r h p a = absurd (omega arith)
 above_from key (x ∷ xs) k m r h p a =
     elim (cases_Bool (lower k (key x))) [
@@ -57,7 +57,7 @@ pub record In (lo hi : ℕ) (o : Resting) : Type 0 where
   pub high : code o.key < hi
   pub bits : Bits o.key
 
-pub all_in : (t : Node) (lo hi : ℕ) → within lo hi t ≡ true → within 0 (2 ^ 102) t ≡ true → All (In lo hi) (flat t)
+pub all_in : (t : Node) (lo hi : ℕ) → within lo hi t ≡ true → within 0 (2 ^ 102) t ≡ true → AllByRecursion (In lo hi) (flat t)
 all_in Idle lo hi w v = tt
 all_in (Offer k a) lo hi w v =
     let p = and_parts (leb lo k) (ltb k hi) w in
@@ -128,7 +128,7 @@ under_flat (Branch' bit split sum p l q r) c =
 abbrev pub Fits : Node → Type 0
 Fits t = (x : ℕ) → 0 < held t x → fit_key (key_of x) ≡ true
 
-pub keys_fit : (t : Node) → All (λ o. fit_offer o ≡ true) (flat t) → Fits t
+pub keys_fit : (t : Node) → AllByRecursion (λ o. fit_offer o ≡ true) (flat t) → Fits t
 keys_fit Idle a x h = absurd (omega arith)
 keys_fit (Offer k v) a x h =
     elim (cases_Bool (eqb k x)) [
@@ -139,7 +139,7 @@ keys_fit (Branch' bit split sum p l q r) a x h =
     let s = all_parts (λ o. fit_offer o ≡ true) (flat l) (flat r) a in
     elim (cases_lt 0 (held l x)) [ inl y ↦ keys_fit l s.0 x y | inr n ↦ keys_fit r s.1 x (omega arith) ]
 
-pub fit_flat : (t : Node) (bits : ℕ) → Ordered bits t → Fits t → All (λ o. fit_offer o ≡ true) (flat t)
+pub fit_flat : (t : Node) (bits : ℕ) → Ordered bits t → Fits t → AllByRecursion (λ o. fit_offer o ≡ true) (flat t)
 fit_flat Idle bits o f = tt
 fit_flat (Offer k a) bits o f =
     let p = and_parts (ltb 0 a) (leb a 68719476735) o in
@@ -170,7 +170,7 @@ sound_of cap u w few small fit =
           book_from (book_of cap u) (record { up = rising_flat u 102 o.0 o.1; fit = fit_flat u 102 o.0 fit; few = omega (arith, count_flat u); small = small })
       | inr z ↦
           let nil : flat u ≡ [] = nil_from_length (flat u) (omega (arith, count_flat u)) in
-          book_from (book_of cap u) (record { up = subst (Rising place) (sym nil) tt; fit = subst (All (λ o. fit_offer o ≡ true)) (sym nil) tt; few = omega (arith, count_flat u); small = small })
+          book_from (book_of cap u) (record { up = subst (Rising place) (sym nil) tt; fit = subst (AllByRecursion (λ o. fit_offer o ≡ true)) (sym nil) tt; few = omega (arith, count_flat u); small = small })
     ]
 
 pub fits_of : (cap : ℕ) (t : Node) → sound_book (book_of cap t) ≡ true → Fits t
@@ -218,7 +218,7 @@ abbrev pub told_code : Option ℕ → List ℕ
 told_code None = []
 told_code (Some c) = words (key_of c)
 
-all_held : (cap : ℕ) (t : Node) → Whole t → sound_book (book_of cap t) ≡ true → All (λ o. (0 < held t (code o.key)) × Bits o.key) (flat t)
+all_held : (cap : ℕ) (t : Node) → Whole t → sound_book (book_of cap t) ≡ true → AllByRecursion (λ o. (0 < held t (code o.key)) × Bits o.key) (flat t)
 all_held cap t w s =
     let ok = book_parts (book_of cap t) s in
     let v = whole_in t w in

@@ -1,5 +1,5 @@
 use Rattle.std.proofs.Common.{◌≡◌, ◌-◌, take, subst, arith}
-use Rattle.std.specs.List.{AllByRecursion as All}
+use Rattle.std.specs.List.{AllByRecursion}
 use Rattle.std.proofs.lemmas.Bool.Decides.{nat_tests}
 use Rattle.tally.specs.Tally.{Small}
 use Rattle.tally.proofs.Nets.{front}
@@ -15,6 +15,6 @@ returns-in-Some g c =
     record {
       row = λ few once up.
           told_volumes (g.B.OfferBook.orders c.args.book.now).book c.args.prices.now c.args.volumes.now c.args.transactions.now up 21
-          c.report.result (c.report.ensures (front ns n s.2, subst (λ m. All Small (take m ns)) e s.3, once));
+          c.report.result (c.report.ensures (front ns n s.2, subst (λ m. AllByRecursion Small (take m ns)) e s.3, once));
       many = λ h. absurd (let r = s.0 in grind (arith, nat_tests));
     }

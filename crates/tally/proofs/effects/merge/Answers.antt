@@ -1,5 +1,5 @@
 use Rattle.std.proofs.Common.{◌+◌, take, sym, subst, arith}
-use Rattle.std.specs.List.{AllByRecursion as All}
+use Rattle.std.specs.List.{AllByRecursion}
 use Rattle.std.proofs.lemmas.List.{take_all}
 use Rattle.tally.specs.Tally.{Tallied, Ahead}
 use Rattle.tally.proofs.Merge.{merged_step, small_all}
@@ -18,7 +18,7 @@ loop-e-preserved g c =
     let s = merged_step g.K.SortKey.rank es i c.e-item.result (take c.loop-e.n c.loop-e.to) c.loop-e-test.true c.e-item.is c.add-n.ensures.fits.0 c.add-n.ensures.fits.1 c.requires.sorted c.loop-e.invariant.1 c.loop-e.invariant.2 in (
       omega arith,
       subst (Tallied g.K.SortKey.rank (take (i + 1) es)) (sym c.add-n.ensures.nets) s.0,
-      subst (All (Ahead g.K.SortKey.rank es (i + 1))) (sym c.add-n.ensures.nets) s.1,
+      subst (AllByRecursion (Ahead g.K.SortKey.rank es (i + 1))) (sym c.add-n.ensures.nets) s.1,
     )
 
 pub returns : goal.returns
