@@ -1,5 +1,5 @@
 // The numbers that follow the first word of a line. Assumes nothing.
-ghost use Rattle.std.specs.Prelude.{◌≡◌, ℕ, ◌+◌, ◌&&◌, ltb, if◌then◌else◌, Some, None, nat_eq, nat_le, nat_lt, slice_index, slice_set};
+ghost use Rattle.std.specs.Prelude.{◌≡◌, ℕ, ◌+◌, ◌&&◌, if◌then◌else◌, Some, None, nat_eq, nat_le, nat_lt, slice_index, slice_set};
 
 use terms::Key;
 
@@ -46,7 +46,7 @@ impl Operands {
 
     // The one at a place, of 64 bits, 32 bits or 8 bits.
     pub fn long(&self, at: usize) -> Option<u64>
-        ensures { result ≡ (if ltb at 11 then Some (slice_index self.now.numbers at) else None) }
+        ensures { result ≡ (if nat_lt at 11 then Some (slice_index self.now.numbers at) else None) }
     {
         if at < MOST {
             Some(self.numbers[at])
@@ -56,7 +56,7 @@ impl Operands {
     }
 
     pub fn word(&self, at: usize) -> Option<u32>
-        ensures { result ≡ (if ltb at 11 && nat_le (slice_index self.now.numbers at) 4294967295 then Some (slice_index self.now.numbers at) else None) }
+        ensures { result ≡ (if nat_lt at 11 && nat_le (slice_index self.now.numbers at) 4294967295 then Some (slice_index self.now.numbers at) else None) }
     {
         let n = self.long(at)?;
         if n <= 4_294_967_295 {
@@ -67,7 +67,7 @@ impl Operands {
     }
 
     pub fn byte(&self, at: usize) -> Option<u8>
-        ensures { result ≡ (if ltb at 11 && nat_le (slice_index self.now.numbers at) 255 then Some (slice_index self.now.numbers at) else None) }
+        ensures { result ≡ (if nat_lt at 11 && nat_le (slice_index self.now.numbers at) 255 then Some (slice_index self.now.numbers at) else None) }
     {
         let n = self.long(at)?;
         if n <= 255 { Some(n as u8) } else { None }
