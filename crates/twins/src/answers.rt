@@ -1,6 +1,7 @@
 // Events and the answers of two replicas, a line for each. What is written is tested, not proved.
 use asking::Reply;
 use lives::{Answer, Event, Pair, Stop};
+use std::alloc::Global;
 use std::io::{BufWriter, Write};
 use std::{fmt, io};
 use terms::{Fault, Key};
@@ -154,11 +155,12 @@ fn print_answers<W: Write>(
 
 // Prints the answers of both runs and whether they agree, which it tells too.
 pub fn print_runs<W: Write + Drop>(
+    alloc: Global,
     output: W,
     events: &[Event<'_>],
     pair: &Pair,
 ) -> io::Result<bool> {
-    let mut buffer = BufWriter::new(output);
+    let mut buffer = BufWriter::new(alloc, output)?;
     let differs = print_answers(
         &mut buffer,
         events,

@@ -17,6 +17,7 @@ use ordered_book::OrderedBook;
 use sorted_store::SortedStore;
 use std::alloc::{AllocError, Global};
 use std::fmt::Display;
+use std::process::ExitCode;
 use std::{env, fs};
 use streams::{Refusal, Twins, pair_events};
 use terms::{Account, Key, Offer};
@@ -145,7 +146,12 @@ fn run_files(rt: &HostRuntime, first: &str, second: &str) -> Result<(), Failed> 
         Ok(runs) => runs,
         Err(refusal) => return Err(fail(rt, format_args!("twins: {refusal}"))),
     };
-    match print_runs(rt.stdout(), runs.twins.first.as_slice(), &runs.pair) {
+    match print_runs(
+        rt.alloc(),
+        rt.stdout(),
+        runs.twins.first.as_slice(),
+        &runs.pair,
+    ) {
         Ok(true) => Ok(()),
         Ok(false) => Err(Failed),
         Err(_) => Err(fail(rt, "twins: the answers cannot be written")),
@@ -165,6 +171,9 @@ fn run(rt: &HostRuntime) -> Result<(), Failed> {
 }
 
 // Ends with status 0 where the streams agree, and 1 otherwise.
-fn main(rt: HostRuntime) -> Result<(), Failed> {
-    run(&rt)
+fn main(rt: HostRuntime) -> ExitCode {
+    match run(&rt) {
+        Ok(()) => ExitCode::SUCCESS,
+        Err(Failed) => ExitCode::FAILURE,
+    }
 }
