@@ -1,5 +1,5 @@
 -- A run that goes on and stops. Assumes nothing.
-use Rattle.std.proofs.Common.{◌≡◌, ℕ, ◌<◌, ◌≤◌, true, List, [], ◌∷◌, ◌++◌, length, get_or, take, Ok, Err, sym, refl, ap, ◌∙◌, subst, ap₂, subst₂, arith, take_all}
+use Rattle.std.proofs.Common.{◌≡◌, ℕ, ◌<◌, ◌≤◌, true, List, [], ◌∷◌, ◌++◌, length, get_or, take, Ok, Err, sym, refl, ap, ◌∙◌, subst, ap₂, arith}
 use Rattle.std.proofs.lemmas.List.{length-take}
 use Rattle.terms.specs.declared.Grant.{Grant}
 use Rattle.terms.specs.Holdings.{Store, Book, sound_store, sound_book}
@@ -15,7 +15,7 @@ use Rattle.lives.specs.declared.events.Answer.{Answer}
 use Rattle.lives.specs.declared.events.Stop.{Stop}
 use Rattle.lives.specs.declared.events.Stop.TheVariants.{Finished, NotHeld, NoMemory}
 use Rattle.lives.specs.Events.{answer_of}
-use Rattle.lives.specs.Law.{Unheld, Stopped, Ran}
+use Rattle.lives.specs.Law.{Unheld, Ran}
 use Rattle.lives.specs.Steps.{Holdings, StepOr, Come, Over}
 use Rattle.lives.proofs.Runs.{run_more, run_length, lived}
 

@@ -1,11 +1,11 @@
 -- Two runs side by side: the law of two replicas. Assumes nothing.
-use Rattle.std.proofs.Common.{◌≡◌, ℕ, zero, suc, ◌<◌, ◌≤◌, true, ◌⊎◌, List, [], ◌∷◌, length, get_or, take, sym, refl, ap, ◌∙◌, subst, subst₂, inl, inr, arith, take_all}
+use Rattle.std.proofs.Common.{◌≡◌, ℕ, zero, suc, ◌<◌, ◌≤◌, true, List, [], ◌∷◌, length, get_or, take, sym, ◌∙◌, subst, subst₂, inl, inr, arith, take_all}
 use Rattle.std.specs.List.{AllZip}
 use Rattle.std.proofs.lemmas.List.{length-take, get_or-take, take-take}
 use Rattle.std.proofs.lemmas.List.Elements.{AllZip-get_or, length_all_zip}
 use Rattle.std.proofs.lemmas.Bool.{cases_lt}
 use Rattle.terms.specs.Holdings.{Store, Book}
-use Rattle.exchange.specs.Life.{Event, Answer, Life, Holds, birth, Step, Runs, Fair}
+use Rattle.exchange.specs.Life.{Event, Answer, Life, birth, Step, Runs, Fair}
 use Rattle.exchange.specs.Life.Question.{height}
 use Rattle.exchange.specs.Life.Event.{found, check, fill, commit, reject, ask}
 use Rattle.exchange.proofs.Agree.{Alike, lives_alike, born_alike, held_first, held_second}
@@ -14,7 +14,7 @@ use Rattle.lives.specs.declared.events.Stop.{Stop}
 use Rattle.lives.specs.declared.events.Stop.TheVariants.{Finished, NotHeld, NoMemory}
 use Rattle.lives.specs.Events.{whole}
 use Rattle.lives.specs.Law.{Lives, Unheld, Stopped, Ran, Law}
-use Rattle.lives.proofs.Runs.{Nth, run_length, run_take, run_at}
+use Rattle.lives.proofs.Runs.{run_length, run_take, run_at}
 
 each_takes : {X : Type 0} (R : X → X → Type 0) (a b : ℕ) (xs ys : List X) → AllZip R xs ys → AllZip R (take a (take b xs)) (take b (take a ys))
 each_takes R zero zero xs ys h = tt

@@ -1,11 +1,9 @@
 -- Runs put together, cut, and seen as lives. Assumes nothing.
-use Rattle.std.proofs.Common.{◌≡◌, ℕ, zero, suc, ◌+◌, ◌<◌, ◌≤◌, List, [], ◌∷◌, ◌++◌, length, get_or, take, sym, refl, ap, ◌∙◌, subst, subst₂, arith}
-use Rattle.terms.specs.declared.Key.{Key}
+use Rattle.std.proofs.Common.{◌≡◌, ℕ, zero, suc, ◌<◌, List, [], ◌∷◌, ◌++◌, length, get_or, take, refl, subst, subst₂, arith}
 use Rattle.terms.specs.Holdings.{Store, Book}
 use Rattle.exchange.specs.Life.{Event, Answer, Life, birth, Step, Runs}
 use Rattle.exchange.specs.Life.Question.{height}
-use Rattle.exchange.specs.Life.Event.{fill, commit, ask}
-use Rattle.exchange.specs.Life.Answer.{done, filled}
+use Rattle.exchange.specs.Life.Event.{ask}
 use Rattle.exchange.proofs.Conserve.{life_conserves, limits_kept}
 use Rattle.exchange.proofs.Counts.{counts_add_up}
 use Rattle.lives.specs.Law.{Balanced, FilledWell, Lives}

@@ -1,11 +1,11 @@
 -- From what a call of the replica answers and leaves to a step of its life. Assumes nothing.
-use Rattle.std.proofs.Common.{◌≡◌, ℕ, List, [], ◌∷◌, ◌++◌, length, get_or, set, Some, None, Ok, Err, Option, Result, sym, refl, ap, ◌∙◌, subst, ap₂, arith}
+use Rattle.std.proofs.Common.{◌≡◌, ℕ, List, [], ◌∷◌, ◌++◌, length, get_or, set, Some, None, Ok, Err, Result, refl, ap, ◌∙◌, ap₂, arith}
 use Rattle.terms.specs.declared.Fault.{Fault}
 use Rattle.terms.specs.declared.Grant.{Grant}
 use Rattle.terms.specs.declared.Key.{Key}
 use Rattle.blocks.specs.Readable.{Block}
 use Rattle.exchange.specs.State.{State}
-use Rattle.exchange.specs.Life.{Answer, life, Step, or_refused, fill_of, grants_after, held_after, RulesCheck, AfterCheck, after_reject}
+use Rattle.exchange.specs.Life.{Answer, life, Step, or_refused, fill_of, grants_after, RulesCheck, AfterCheck, after_reject}
 use Rattle.exchange.specs.Life.Event.{found, check, fill, commit, reject}
 use Rattle.exchange.specs.Life.Answer.{done, refused, checked, filled}
 use Rattle.replica.specs.Calls.{plainly, fills_of, FoundCall, CheckCall, FillCall, CommitCall}

@@ -8,7 +8,7 @@ use Rattle.exchange.specs.State.{remainder}
 use Rattle.exchange.specs.Trade.{sold, paid}
 use Rattle.exchange.specs.Faults.{granted}
 use Rattle.exchange.specs.Commit.{Committed}
-use Rattle.exchange.specs.Life.{Event, Answer, Life, Question, birth, Holds, Step, Fair}
+use Rattle.exchange.specs.Life.{Event, Answer, Life, birth, Holds, Step, Fair}
 use Rattle.exchange.specs.Life.Question.{height}
 use Rattle.exchange.specs.Life.Event.{found, check, fill, commit, reject, ask}
 use Rattle.exchange.specs.Life.Answer.{done, filled}

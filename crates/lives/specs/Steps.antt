@@ -1,8 +1,8 @@
 -- What the steps of a run answer and leave. Assumes nothing.
-use Rattle.std.specs.Prelude.{◌≡◌, ℕ, ◌<◌, true, List, length, take, Some, None, Ok, Err, Option, Result, slice_index_or}
+use Rattle.std.specs.Prelude.{◌≡◌, ℕ, List, length, take, None, Ok, Err, Option, Result, slice_index_or}
 use Rattle.terms.specs.declared.Grant.{Grant}
-use Rattle.terms.specs.Holdings.{Store, Book, sound_store, sound_book}
-use Rattle.exchange.specs.State.{State, newborn}
+use Rattle.terms.specs.Holdings.{Store, Book}
+use Rattle.exchange.specs.State.{State}
 use Rattle.exchange.specs.Life as ex
 use Rattle.exchange.specs.Life.{Life, life, birth, Step, Runs}
 use Rattle.replica.specs.Meaning.{Steady}

@@ -1,14 +1,13 @@
 -- From the tests that a call makes, in their order, to its ruling. Assumes nothing.
-use Rattle.std.proofs.Common.{◌≡◌, ℕ, ◌<◌, ◌≤◌, Bool, true, false, ◌&&◌, eqb, ltb, ◌⊎◌, List, length, None, Ok, Err, MatchBool, Result, sym, refl, ap, ◌∙◌, subst, inl, inr, arith}
-use Rattle.std.proofs.lemmas.Bool.Decides.{nat_tests}
+use Rattle.std.proofs.Common.{◌≡◌, ℕ, Bool, true, false, ◌&&◌, ltb, ◌⊎◌, List, length, None, Ok, Err, MatchBool, Result, sym, refl, ap, subst, inl, inr, arith}
 use Rattle.std.proofs.lemmas.Bool.{cases_Bool, le-ltb, eq-eqb, ne_eqb, and_from}
 use Rattle.terms.specs.declared.Fault.{Fault}
 use Rattle.terms.specs.declared.Grant.{Grant}
 use Rattle.blocks.specs.Readable.{Block, Readable}
 use Rattle.exchange.specs.State.{State, most}
 use Rattle.exchange.specs.Faults.{fault, Verdict}
-use Rattle.exchange.specs.Life.{is_empty, ReadsFounding, RulesFounding, Reads, Rules, RulesCheck}
-use Rattle.replica.specs.Calls.{plainly, FoundCall, CheckCall}
+use Rattle.exchange.specs.Life.{is_empty, ReadsFounding, RulesFounding, Reads, Rules}
+use Rattle.replica.specs.Calls.{FoundCall, CheckCall}
 
 pub when_true : (b : Bool) (P Q : Type 0) → b ≡ true → P → MatchBool b P Q
 when_true b P Q e p = subst (λ x. MatchBool x P Q) (sym e) p

@@ -1,7 +1,6 @@
 -- What an account store and an offer book answer to each command of the script. Assumes nothing.
 use Rattle.std.specs.Prelude.{◌≡◌, ℕ, List, [], ◌∷◌, length, Ok, Err, Result, MatchResult, nat_lt}
 use Rattle.terms.specs.declared.Fault.{Fault}
-use Rattle.terms.specs.declared.Key.{Key}
 use Rattle.terms.specs.Order.{name, place, words, above}
 use Rattle.terms.specs.Holdings.{Store, Book, standing, floor_at, balance_at, free_of, amount_at, offered_of, up_to}
 use Rattle.accounts.specs.Changes.{open_answer, grant_answer, balance_answer, floor_answer, Opened, Granted, BalanceSet, FloorSet}

@@ -1,4 +1,4 @@
-use Rattle.std.proofs.Common.{◌≡◌, ◌<◌, length, Ok, Err, vec_items, ap, ◌∙◌, arith}
+use Rattle.std.proofs.Common.{◌<◌, length, Ok, Err, vec_items, ap, ◌∙◌, arith}
 use Rattle.replica.specs.Meaning.{state_of}
 use Rattle.lives.specs.Events.{held_in, held_of}
 use Rattle.lives.proofs.Held.{held_past, held_at}

@@ -1,4 +1,4 @@
-use Rattle.std.proofs.Common.{◌≡◌, true, [], map, length, take, vec_items}
+use Rattle.std.proofs.Common.{◌≡◌, true, [], map, take, vec_items}
 use Rattle.terms.specs.Holdings.{Store, Book, sound_store, sound_book}
 use Rattle.exchange.specs.State.{newborn}
 use Rattle.replica.specs.Meaning.{state_of}

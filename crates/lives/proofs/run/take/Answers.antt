@@ -1,4 +1,4 @@
-use Rattle.std.proofs.Common.{◌≡◌, ◌<◌, length, vec_items, ap, ◌∙◌, arith}
+use Rattle.std.proofs.Common.{◌<◌, length, vec_items, ap, ◌∙◌, arith}
 use Rattle.lives.specs.Events.{held_in}
 use Rattle.lives.proofs.Held.{held_past, held_at, held_spent}
 use Rattle.lives.proofs.run.take.Goals as goal

@@ -1,4 +1,4 @@
-use Rattle.std.proofs.Common.{◌≡◌, ◌+◌, ◌<◌, sym, refl, arith}
+use Rattle.std.proofs.Common.{◌≡◌, ◌+◌, ◌<◌, refl, arith}
 use Rattle.blocks.specs.Decoded.{block_of}
 use Rattle.clearing.specs.Clear.{after}
 use Rattle.replica.specs.Meaning.{state_of}

@@ -1,9 +1,7 @@
-use Rattle.std.proofs.Common.{◌≡◌, false, length, Ok, Err, sym, refl, ap, ◌∙◌, subst, inl, inr}
+use Rattle.std.proofs.Common.{◌≡◌, length, Ok, sym, refl, ◌∙◌, inl, inr}
 use Rattle.std.proofs.lemmas.Result.{err_from_is_err_and}
-use Rattle.exchange.specs.Life.{is_empty}
 use Rattle.blocks.specs.Decoded.{grants_of}
 use Rattle.replica.specs.Meaning.{state_of}
-use Rattle.replica.specs.Calls.{FoundCall}
 use Rattle.replica.proofs.Rulings.{not_empty, found_again, found_late, found_ruled, found_refused}
 use Rattle.replica.proofs.Foundings.{newly, made}
 use Rattle.replica.proofs.life.Replica.found.Goals as goal
