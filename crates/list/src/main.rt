@@ -56,7 +56,7 @@ fn run(rt: &HostRuntime) -> anyhow::Result<()> {
     // one byte more than the longest that is listed tells that there is too much
     rt.stdin().take(65_537).read_to_end(&mut input)?;
     let lines = lines_of(rt.alloc(), input.as_slice())?;
-    write_lines(rt.stdout(), lines.as_slice())?;
+    write_lines(rt.alloc(), rt.stdout(), lines.as_slice())?;
     Ok(())
 }
 

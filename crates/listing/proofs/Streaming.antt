@@ -1,16 +1,16 @@
 -- The blocks of a stream, one by one, and what a replica is known to have after each. Assumes nothing.
-use Rattle.std.proofs.Common.{◌≡◌, ℕ, ◌<◌, Bool, true, false, ltb, ◌⊎◌, List, [], ◌∷◌, ◌++◌, length, take, drop, Some, None, Ok, Err, MatchBool, Result, sym, refl, ap, ◌∙◌, subst, subst₂, inl, inr, append_assoc, append-nil, arith}
-use Rattle.std.proofs.lemmas.Bool.{cases_Bool, and_parts}
+use Rattle.std.proofs.Common.{◌≡◌, ℕ, ◌<◌, true, ltb, List, [], ◌∷◌, ◌++◌, length, take, drop, Some, Ok, Err, MatchBool, Result, sym, refl, ap, ◌∙◌, subst, subst₂, inl, inr, append_assoc, append-nil, arith}
+use Rattle.std.proofs.lemmas.Bool.{and_parts}
 use Rattle.terms.specs.declared.Fault.{Fault}
 use Rattle.terms.specs.declared.Grant.{Grant}
 use Rattle.terms.specs.Ranges.{every, fit_grant}
 use Rattle.terms.specs.Holdings.{sound_store, sound_book}
 use Rattle.commands.specs.Extent.{Ends, Endless}
-use Rattle.blocks.specs.Readable.{Block, Readable}
+use Rattle.blocks.specs.Readable.{Block}
 use Rattle.blocks.proofs.Laws.{read_one_way, founds_fits}
 use Rattle.exchange.specs.State.{State, Counts, most}
 use Rattle.exchange.specs.Faults.{fault, Verdict}
-use Rattle.exchange.specs.Commit.{Sound, Founded, Committed, counted, one_passed}
+use Rattle.exchange.specs.Commit.{Sound, Committed, counted, one_passed}
 use Rattle.exchange.specs.Life.{is_empty, RulesFounding, Reads, Rules, RulesCheck, AfterFounding, AfterCheck, AfterCommit}
 use Rattle.exchange.proofs.Running.{read_founded, founded_first}
 use Rattle.exchange.proofs.Causes.{clean_counted}

@@ -1,5 +1,5 @@
 -- Stores and books of the same meaning, one for another. Assumes nothing.
-use Rattle.std.proofs.Common.{◌≡◌, ℕ, min, List, [], IfOk, vec_items, Result, refl, ap, ◌∙◌, subst₂}
+use Rattle.std.proofs.Common.{◌≡◌, ℕ, List, [], IfOk, vec_items, Result, ◌∙◌, subst₂}
 use Rattle.terms.specs.Holdings.{Store, Book}
 use Rattle.listing.specs.declared.stream.Listing.{Listing}
 use Rattle.listing.specs.Streams.{Outcome}

@@ -11,6 +11,7 @@ use arguments::{Arguments, HELP, USAGE, asks_help, parse};
 use listing::write_lines;
 use replaying::replay;
 use std::fmt::Display;
+use std::process::ExitCode;
 use std::{env, fs};
 
 // The program has failed, and has said why.
@@ -54,8 +55,8 @@ fn replay_file(rt: &HostRuntime, arguments: Arguments<'_>) -> Result<(), Failed>
     let Ok(listing) = replay(rt.alloc(), settings, bytes.as_slice()) else {
         return Err(fail(rt, "replay: there is not enough memory"));
     };
-    let lines = write_lines(rt.stdout(), listing.lines.as_slice());
-    let counts = write_lines(rt.stdout(), &[listing.counts]);
+    let lines = write_lines(rt.alloc(), rt.stdout(), listing.lines.as_slice());
+    let counts = write_lines(rt.alloc(), rt.stdout(), &[listing.counts]);
     match (lines, counts) {
         (Ok(()), Ok(())) => Ok(()),
         (_, _) => Err(fail(rt, "replay: the listing cannot be written")),
@@ -74,6 +75,9 @@ fn run(rt: &HostRuntime) -> Result<(), Failed> {
     }
 }
 
-fn main(rt: HostRuntime) -> Result<(), Failed> {
-    run(&rt)
+fn main(rt: HostRuntime) -> ExitCode {
+    match run(&rt) {
+        Ok(()) => ExitCode::SUCCESS,
+        Err(Failed) => ExitCode::FAILURE,
+    }
 }

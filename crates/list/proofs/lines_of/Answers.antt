@@ -27,5 +27,5 @@ returns-in_err-listing c = let p = err_from_is_err_and c.from_residual-in_err-li
 pub returns : goal.returns
 returns c =
     let short : length c.args.input.now ≤ 65536 = omega arith in
-    let slots : length c.as_mut_slice.result.now ≡ 256 = omega (arith, c.as_mut_slice.ensures.len, c.in_ok-slots.ensures.made) in
+    let slots : length c.as_mut_slice.result.now ≡ 256 = omega (arith, c.as_mut_slice.ensures.len, c.in_ok-slots.ensures.len) in
     shown _ _ _ _ _ _ short c.new-store.ensures slots c.in_ok-book.ensures c.in_ok-listing.ensures

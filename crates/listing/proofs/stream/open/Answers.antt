@@ -1,6 +1,4 @@
-use Rattle.std.proofs.Common.{◌≡◌, sym, refl, ap, ◌∙◌, subst, inl, inr}
 use Rattle.std.proofs.lemmas.Result.{err_from_is_err_and}
-use Rattle.replica.specs.Meaning.{state_of}
 use Rattle.listing.proofs.Streaming.{opens, unopened}
 use Rattle.listing.proofs.stream.open.Goals as goal
 

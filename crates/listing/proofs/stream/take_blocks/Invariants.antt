@@ -1,6 +1,4 @@
-use Rattle.std.proofs.Common.{ℕ, List, ◌++◌, length, vec_items}
-use Rattle.exchange.specs.State.{State}
-use Rattle.exchange.specs.Commit.{Sound}
+use Rattle.std.proofs.Common.{length, vec_items}
 use Rattle.replica.specs.Meaning.{state_of}
 use Rattle.listing.proofs.Streaming.{Going}
 use Rattle.listing.proofs.stream.take_blocks.Given as goal
