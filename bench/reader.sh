@@ -10,7 +10,7 @@ blocks=2000
 work=$(mktemp -d)
 trap 'rm -rf "$work"' EXIT
 
-rt check inspect >"$work/log" 2>&1 || { tail -n 20 "$work/log" >&2; exit 1; }
+(cd crates/inspect && rt run </dev/null) >"$work/log" 2>&1 || { tail -n 20 "$work/log" >&2; exit 1; }
 rustc -O --edition 2021 -o "$work/rust" bench/reader.rs
 python3 - "$work/input" "$blocks" <<'PY'
 import sys
@@ -41,9 +41,9 @@ less() {
 
 ours=999999999 rust=999999999 ours_in=999999999 rust_in=999999999
 for _ in $(seq "$runs"); do
-    ours_in=$(less "$ours_in" "$(timed "$work/input.unread" none target/bin/inspect --totals)")
+    ours_in=$(less "$ours_in" "$(timed "$work/input.unread" none crates/inspect/out/inspect --totals)")
     rust_in=$(less "$rust_in" "$(timed "$work/input.unread" none "$work/rust")")
-    ours=$(less "$ours" "$(timed "$work/input" ours target/bin/inspect --totals)")
+    ours=$(less "$ours" "$(timed "$work/input" ours crates/inspect/out/inspect --totals)")
     rust=$(less "$rust" "$(timed "$work/input" rust "$work/rust")")
 done
 cmp "$work/said.ours" "$work/said.rust"

@@ -7,7 +7,7 @@ set -euo pipefail
 cd "$(dirname "$0")/.."
 blocks=${1:-1000}
 runs=${2:-5}
-rt check replay > /dev/null
+(cd crates/replay && rt run -- --help > /dev/null 2>&1)
 cargo build --release --offline --quiet --manifest-path independent/Cargo.toml
 rust=independent/target/release
 files=$(mktemp -d)
@@ -43,10 +43,10 @@ printf '%-24s %10s %10s\n' 'Rust, BTreeMap' "$(per_block full "$rust/replay")" "
 for store in sorted hashed; do
     for book in trie table; do
         printf '%-24s %10s %10s\n' "$store store, $book" \
-            "$(per_block full target/bin/replay --store "$store" --book "$book")" \
-            "$(per_block quarter target/bin/replay --store "$store" --book "$book")"
+            "$(per_block full crates/replay/out/replay --store "$store" --book "$book")" \
+            "$(per_block quarter crates/replay/out/replay --store "$store" --book "$book")"
     done
 done
 "$rust/replay" "$files/full" > "$files/rust"
-target/bin/replay "$files/full" > "$files/ours"
+crates/replay/out/replay "$files/full" > "$files/ours"
 cmp "$files/rust" "$files/ours" && echo 'both print the same for the full blocks'

@@ -8,7 +8,7 @@ runs=${1:-7}
 work=$(mktemp -d)
 trap 'rm -rf "$work"' EXIT
 
-rt check hash >"$work/log" 2>&1 || { tail -n 20 "$work/log" >&2; exit 1; }
+(cd crates/hash && rt run </dev/null) >"$work/log" 2>&1 || { tail -n 20 "$work/log" >&2; exit 1; }
 rustc -O --edition 2021 -o "$work/rust" bench/sha256.rs
 head -c 67108864 /dev/urandom >"$work/input"
 
@@ -22,7 +22,7 @@ timed() {
 
 ours=999999 rust=999999 system=999999
 for _ in $(seq "$runs"); do
-    t=$(timed target/bin/hash ours) && [ "$t" -ge "$ours" ] || ours=$t
+    t=$(timed crates/hash/out/hash ours) && [ "$t" -ge "$ours" ] || ours=$t
     t=$(timed "$work/rust" rust) && [ "$t" -ge "$rust" ] || rust=$t
     t=$(timed sha256sum system) && [ "$t" -ge "$system" ] || system=$t
 done

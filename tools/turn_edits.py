@@ -12,9 +12,9 @@ for p in sorted(glob.glob('crates/*/must-fail/*.edit') + glob.glob('planted/*/*.
         elif line.startswith('old: '):
             q = os.path.join('crates', crate, f)
             if q not in texts: texts[q] = open(q).read() if os.path.exists(q) else ''
-            n = texts[q].count(line[5:].strip())
-            last = (q, line[5:].strip())
+            n = texts[q].count(line[5:])
+            last = (q, line[5:])
             if n != 1: print(p, n, ':', line[5:])
         elif line.startswith('new: '):
             q, o = last
-            texts[q] = texts[q].replace(o, line[5:].strip(), 1)
+            texts[q] = texts[q].replace(o, line[5:], 1)
