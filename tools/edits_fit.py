@@ -1,5 +1,5 @@
 #!/usr/bin/env python3
-"""Says of each edit in must-fail/ and planted/ whether its old text stands exactly once.  usage: tools/turn_edits.py [CRATE..]"""
+"""Says of each edit in must-fail/ and planted/ whether its old text stands exactly once.  usage: tools/edits_fit.py [CRATE..]"""
 import glob, os, re, sys
 want = set(sys.argv[1:])
 for p in sorted(glob.glob('crates/*/must-fail/*.edit') + glob.glob('planted/*/*.edit')):
