@@ -3,77 +3,71 @@
 // No function asks anything of its caller, and questions and refusals change no meaning.
 #![tactic(auto)]
 
-ghost use Rattle.std.specs.Prelude.{◌≡◌, ℕ, ◌+◌, ◌<◌, ◌≤◌, List, [], ◌∷◌, length, replicate, if◌then◌else◌, MatchResult};
+ghost use Rattle.std.specs.Prelude.{◌≡◌, ℕ, ◌+◌, ◌<◌, ◌≤◌, List, [], ◌∷◌, length, replicate, if◌then◌else◌, MatchResult, true};
 ghost use Rattle.terms.specs.Order.{name, above};
-ghost use Rattle.terms.specs.Holdings.{standing, floor_at, balance_at, free_of};
+ghost use Rattle.terms.specs.Holdings.{Store, sound_store, standing, floor_at, balance_at, free_of};
 ghost use Rattle.ordered.specs.Places.{told};
-ghost use Rattle.accounts.specs.Meaning.{Ledger};
 ghost use Rattle.accounts.specs.Changes.{open_answer, balance_answer, floor_answer, grant_answer, Opened, BalanceSet, FloorSet, Granted};
 
-use terms::{Account, Fault, are_balances};
+pub use terms::refusal;
+
+use terms::{Account, Cause, Fault, are_balances};
 
 // As many accounts as a store may have, however much memory it is lent.
 pub const MAX_ACCOUNTS: usize = 65_536;
 
 pub trait AccountStore {
-    ghost ledger: { Self → Ledger };
+    // what it means
+    ghost store: { Self → Store };
 
     fn stands(&self, number: u32) -> bool
-        ensures { (if result then 1 else 0) ≡ standing (ledger self.now).store number };
+        ensures { (if result then 1 else 0) ≡ standing (store self.now) number };
 
     // A free balance: 0 for an absent account or an asset above 7.
     fn balance(&self, number: u32, asset: u8) -> u64
-        ensures { result ≡ balance_at (ledger self.now).store number asset };
+        ensures { result ≡ balance_at (store self.now) number asset };
 
     // The highest sequence number used: 0 for an absent account.
     fn floor(&self, number: u32) -> u32
-        ensures { result ≡ floor_at (ledger self.now).store number };
+        ensures { result ≡ floor_at (store self.now) number };
 
     // How many accounts stand.
     fn count(&self) -> u32
-        ensures { result ≡ length (ledger self.now).store.accounts };
+        ensures { result ≡ length (store self.now).accounts };
 
     // How many may stand.
     fn capacity(&self) -> u32
-        ensures { result ≡ (ledger self.now).store.capacity };
+        ensures { result ≡ (store self.now).capacity };
 
     // The highest number that an account may have.
     fn top(&self) -> u32
-        ensures { result ≡ (ledger self.now).store.top };
+        ensures { result ≡ (store self.now).top };
 
     // The sum of all balances of one asset.
     fn total(&self, asset: u8) -> u64
-        ensures { result ≡ free_of (ledger self.now).store asset };
+        ensures { result ≡ free_of (store self.now) asset };
 
     // The lowest standing number above a given one.
     fn next(&self, number: u32) -> Option<u32>
-        ensures { told (λ n. n ∷ []) result ≡ above name (ledger self.now).store.accounts (number ∷ []) };
+        ensures { told (λ n. n ∷ []) result ≡ above name (store self.now).accounts (number ∷ []) };
 
     // Opens an account with floor and balances 0. Refuses with 27, 28 or 29.
     fn open(&mut self, number: u32) -> Result<(), Fault>
-        ensures answer { result ≡ open_answer (ledger self.old).store number }
-        ensures after { MatchResult result (λ _. Opened (ledger self.old).store number (ledger self.new).store) (λ _. (ledger self.new).store ≡ (ledger self.old).store) };
+        ensures answer { result ≡ open_answer (store self.old) number }
+        ensures after { MatchResult result (λ _. Opened (store self.old) number (store self.new)) (λ _. store self.new ≡ store self.old) };
 
     // Replaces one balance. Refuses with 30 or 31.
     fn set_balance(&mut self, number: u32, asset: u8, value: u64) -> Result<(), Fault>
-        ensures answer { result ≡ balance_answer (ledger self.old).store number asset value }
-        ensures after { MatchResult result (λ _. BalanceSet (ledger self.old).store number asset value (ledger self.new).store) (λ _. (ledger self.new).store ≡ (ledger self.old).store) };
+        ensures answer { result ≡ balance_answer (store self.old) number asset value }
+        ensures after { MatchResult result (λ _. BalanceSet (store self.old) number asset value (store self.new)) (λ _. store self.new ≡ store self.old) };
 
     // Replaces the floor. Refuses with 30.
     fn set_floor(&mut self, number: u32, value: u32) -> Result<(), Fault>
-        ensures answer { result ≡ floor_answer (ledger self.old).store number }
-        ensures after { MatchResult result (λ _. FloorSet (ledger self.old).store number value (ledger self.new).store) (λ _. (ledger self.new).store ≡ (ledger self.old).store) };
-}
+        ensures answer { result ≡ floor_answer (store self.old) number }
+        ensures after { MatchResult result (λ _. FloorSet (store self.old) number value (store self.new)) (λ _. store self.new ≡ store self.old) };
 
-// A refusal whose places are 0.
-pub fn refusal(number: u8) -> Fault
-    ensures { result ≡ record { number = number; first = 0; second = 0 } }
-{
-    Fault {
-        number,
-        first: 0,
-        second: 0,
-    }
+    // The accounts stand in order and in range, and no more of them than there is room for.
+    ghost sound: { (s : Self) → sound_store (store s) ≡ true };
 }
 
 // An account as it is opened: its floor and its balances are 0.
@@ -94,11 +88,11 @@ pub fn open_with<S: AccountStore>(
     number: u32,
     balances: [u64; 8],
 ) -> Result<(), Fault>
-    ensures answer { result ≡ grant_answer (S.AccountStore.ledger store.old).store number balances }
-    ensures after { MatchResult result (λ _. Granted (S.AccountStore.ledger store.old).store number balances (S.AccountStore.ledger store.new).store) (λ _. (S.AccountStore.ledger store.new).store ≡ (S.AccountStore.ledger store.old).store) }
+    ensures answer { result ≡ grant_answer (S.store store.old) number balances }
+    ensures after { MatchResult result (λ _. Granted (S.store store.old) number balances (S.store store.new)) (λ _. S.store store.new ≡ S.store store.old) }
 {
     if !are_balances(&balances) {
-        return Err(refusal(31));
+        return Err(Cause::BadOperand.into());
     }
     store.open(number)?;
     for x in 0u8..8 {

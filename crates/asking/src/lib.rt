@@ -15,7 +15,7 @@ use replica::Replica;
 
 // The answer to a question.
 pub fn ask<S: AccountStore, B: OfferBook>(replica: &Replica<S, B>, question: Question) -> Reply
-    ensures { reply_of result ≡ replies (state_of (S.AccountStore.ledger replica.now.store).store (B.OfferBook.orders replica.now.book).book replica.now.numbers) (question_of question) }
+    ensures { reply_of result ≡ replies (state_of (S.store replica.now.store) (B.book replica.now.book) replica.now.numbers) (question_of question) }
 {
     match question {
         Question::Height => Reply::Number(replica.height() as u64),

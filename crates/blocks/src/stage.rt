@@ -5,8 +5,8 @@ ghost use Rattle.blocks.specs.Readable.{follows};
 ghost use Rattle.commands.specs.Shown.{shown, told};
 ghost use Rattle.blocks.specs.Stages.{admits, afterwards, stepped};
 
-use commands::{Command, Reading, fault_at, in_range, parse};
-use terms::Fault;
+use commands::{Command, Reading, in_range, parse};
+use terms::{Cause, Fault};
 
 #[derive(Clone, Copy)]
 pub(crate) enum Stage {
@@ -87,10 +87,10 @@ pub(crate) fn step<'a>(bytes: &'a [u8], at: usize, stage: Stage) -> Result<Readi
 {
     let reading = parse(bytes, at)?;
     if !stage.admits(reading.command) {
-        return Err(fault_at(4, at));
+        return Err(Cause::OutOfTurn.at_byte(at));
     }
     if !in_range(&reading.command) {
-        return Err(fault_at(5, at));
+        return Err(Cause::OutOfRange.at_byte(at));
     }
     Ok(reading)
 }

@@ -6,8 +6,8 @@ ghost use Rattle.blocks.specs.Decoded.{block_of, grants_of};
 use crate::decoded::{DecodedBlock, DecodedFounding};
 use crate::drafted::Draft;
 use crate::stage::{Stage, step};
-use commands::{Command, eight_balances, fault_at};
-use terms::{Fault, Grant};
+use commands::{Command, eight_balances};
+use terms::{Cause, Fault, Grant};
 
 // The block that these bytes say; or fault 1, more than 40,000 bytes; else the fault of the leftmost command, which at one
 // command is looked for in the order 3, 2, 4, 5, 6; or 7, bytes after the end.
@@ -15,11 +15,7 @@ pub fn read_block(bytes: &[u8]) -> Result<DecodedBlock, Fault>
     ensures { MatchResult result (λ b. Readable bytes.now (block_of b)) (Refused is_begin bytes.now) }
 {
     if bytes.len() > 40_000 {
-        return Err(Fault {
-            number: 1,
-            first: 0,
-            second: 0,
-        });
+        return Err(Cause::TooManyBytes.into());
     }
     let mut draft = Draft::new();
     let mut stage = Stage::Start;
@@ -28,18 +24,18 @@ pub fn read_block(bytes: &[u8]) -> Result<DecodedBlock, Fault>
         let reading = step(bytes, at, stage)?;
         if let Command::End = reading.command {
             if reading.next < bytes.len() {
-                return Err(fault_at(7, reading.next));
+                return Err(Cause::BytesAfterEnd.at_byte(reading.next));
             }
             return Ok(DecodedBlock { parts: draft });
         }
         if draft.overflows(reading.command) {
-            return Err(fault_at(6, at));
+            return Err(Cause::TooManyTransactions.at_byte(at));
         }
         draft.add(reading.command);
         stage = Stage::after(reading.command);
         at = reading.next;
     }
-    Err(fault_at(2, at))
+    Err(Cause::Unfinished.at_byte(at))
 }
 
 // The founding that these bytes say; or a fault, looked for as in a block.
@@ -47,11 +43,7 @@ pub fn read_founding(bytes: &[u8]) -> Result<DecodedFounding, Fault>
     ensures { MatchResult result (λ f. Founds bytes.now (grants_of f)) (Refused is_grant bytes.now) }
 {
     if bytes.len() > 40_000 {
-        return Err(Fault {
-            number: 1,
-            first: 0,
-            second: 0,
-        });
+        return Err(Cause::TooManyBytes.into());
     }
     let mut grants = [Grant {
         account: 0,
@@ -63,7 +55,7 @@ pub fn read_founding(bytes: &[u8]) -> Result<DecodedFounding, Fault>
         let reading = step(bytes, at, Stage::Grants)?;
         if let Command::End = reading.command {
             if reading.next < bytes.len() {
-                return Err(fault_at(7, reading.next));
+                return Err(Cause::BytesAfterEnd.at_byte(reading.next));
             }
             return Ok(DecodedFounding { grants, count });
         }
@@ -77,5 +69,5 @@ pub fn read_founding(bytes: &[u8]) -> Result<DecodedFounding, Fault>
         count += 1;
         at = reading.next;
     }
-    Err(fault_at(2, at))
+    Err(Cause::Unfinished.at_byte(at))
 }

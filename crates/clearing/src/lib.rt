@@ -12,7 +12,7 @@ ghost use Rattle.clearing.specs.Clear.{Nets, over, ClearedOr, Commits};
 mod remainders;
 
 use crate::remainders::renew;
-use accounts::{AccountStore, refusal};
+use accounts::AccountStore;
 use blocks::DecodedBlock;
 use clearing_book::{cancel_offers, place_offers};
 use clearing_store::{apply_nets, open_accounts, raise_floors};
@@ -20,7 +20,7 @@ use clearing_walk::walk_all;
 use judging_balances::{Slot, nets};
 use offers::OfferBook;
 use tally::{Effect, Net};
-use terms::Fault;
+use terms::{Cause, Fault};
 
 // Clears a block by its nets. They are worked out before, since cancelled offers are still in the book then; they reach
 // the balances in one step each, since what comes in first could pass the largest balance.
@@ -31,11 +31,11 @@ fn clear_by<S: AccountStore, B: OfferBook>(
     block: &DecodedBlock,
     nets: &[Net<Slot>],
 ) -> Result<(), Fault>
-    ensures { (s : State) → Sound (over s (S.AccountStore.ledger store.old).store (B.OfferBook.orders book.old).book remainders.old)
-        → Verdict (over s (S.AccountStore.ledger store.old).store (B.OfferBook.orders book.old).book remainders.old) (block_of block.now) None
-        → Nets (over s (S.AccountStore.ledger store.old).store (B.OfferBook.orders book.old).book remainders.old) (block_of block.now) nets.now
-        → ClearedOr (over s (S.AccountStore.ledger store.old).store (B.OfferBook.orders book.old).book remainders.old) (block_of block.now)
-        (S.AccountStore.ledger store.new).store (B.OfferBook.orders book.new).book remainders.new result }
+    ensures { (s : State) → Sound (over s (S.store store.old) (B.book book.old) remainders.old)
+        → Verdict (over s (S.store store.old) (B.book book.old) remainders.old) (block_of block.now) None
+        → Nets (over s (S.store store.old) (B.book book.old) remainders.old) (block_of block.now) nets.now
+        → ClearedOr (over s (S.store store.old) (B.book book.old) remainders.old) (block_of block.now)
+        (S.store store.new) (B.book book.new) remainders.new result }
 {
     let transactions = block.transactions();
     cancel_offers(book, transactions)?;
@@ -57,10 +57,10 @@ pub fn clear<S: AccountStore, B: OfferBook>(
     remainders: &mut [u64; 8],
     block: &DecodedBlock,
 ) -> Result<(), Fault>
-    ensures { (s : State) → s.store ≡ (S.AccountStore.ledger store.old).store
-        → s.book ≡ (B.OfferBook.orders book.old).book → s.own.remainders ≡ remainders.old
+    ensures { (s : State) → s.store ≡ (S.store store.old)
+        → s.book ≡ (B.book book.old) → s.own.remainders ≡ remainders.old
         → Sound s → Verdict s (block_of block.now) None
-        → ClearedOr s (block_of block.now) (S.AccountStore.ledger store.new).store (B.OfferBook.orders book.new).book remainders.new result }
+        → ClearedOr s (block_of block.now) (S.store store.new) (B.book book.new) remainders.new result }
 {
     let none = Slot {
         account: 0,
@@ -77,7 +77,7 @@ pub fn clear<S: AccountStore, B: OfferBook>(
         minus: 0,
     }; 2048];
     match nets(book, block.transactions(), &mut effects, &mut entries) {
-        None => Err(refusal(6)),
+        None => Err(Cause::TooManyTransactions.into()),
         Some(n) => clear_by(store, book, remainders, block, &entries[0..n]),
     }
 }

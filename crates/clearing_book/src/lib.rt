@@ -12,7 +12,7 @@ use terms::{Action, Fault, Key, Transaction};
 
 // Takes out the offer that a transaction cancels, if it cancels one.
 fn cancel<B: OfferBook>(book: &mut B, t: Transaction) -> Result<(), Fault>
-    ensures { LeftOr (cancelled t) (B.OfferBook.orders book.old).book (B.OfferBook.orders book.new).book result }
+    ensures { LeftOr (cancelled t) (B.book book.old) (B.book book.new) result }
 {
     match t.action {
         Action::Cancel {
@@ -36,7 +36,7 @@ fn cancel<B: OfferBook>(book: &mut B, t: Transaction) -> Result<(), Fault>
 
 // Places the offer that a transaction makes, if it makes one.
 fn place<B: OfferBook>(book: &mut B, t: Transaction) -> Result<(), Fault>
-    ensures { EnteredOr (placed t) (B.OfferBook.orders book.old).book (B.OfferBook.orders book.new).book result }
+    ensures { EnteredOr (placed t) (B.book book.old) (B.book book.new) result }
 {
     match t.action {
         Action::Place {
@@ -60,7 +60,7 @@ fn place<B: OfferBook>(book: &mut B, t: Transaction) -> Result<(), Fault>
 
 // Takes all cancelled offers out of the book. Refuses only where one does not stand or is cancelled twice.
 pub fn cancel_offers<B: OfferBook>(book: &mut B, transactions: &[Transaction]) -> Result<(), Fault>
-    ensures { LeftOr (flat_map cancelled transactions.now) (B.OfferBook.orders book.old).book (B.OfferBook.orders book.new).book result }
+    ensures { LeftOr (flat_map cancelled transactions.now) (B.book book.old) (B.book book.new) result }
 {
     for t in transactions {
         cancel(book, *t)?;
@@ -71,7 +71,7 @@ pub fn cancel_offers<B: OfferBook>(book: &mut B, transactions: &[Transaction]) -
 // Places all new offers in the book. Refuses only where one stands, is made twice or is out of range, or where they
 // are too many.
 pub fn place_offers<B: OfferBook>(book: &mut B, transactions: &[Transaction]) -> Result<(), Fault>
-    ensures { EnteredOr (flat_map placed transactions.now) (B.OfferBook.orders book.old).book (B.OfferBook.orders book.new).book result }
+    ensures { EnteredOr (flat_map placed transactions.now) (B.book book.old) (B.book book.new) result }
 {
     for t in transactions {
         place(book, *t)?;

@@ -9,10 +9,10 @@ ghost use Rattle.terms.specs.Ranges.{is_balance};
 ghost use Rattle.exchange.specs.Trade.{created};
 ghost use Rattle.clearing_store.specs.Changes.{moved_to, AppliedOr, RaisedOr, OpenedOr};
 
-use accounts::{AccountStore, refusal};
+use accounts::AccountStore;
 use judging_balances::Slot;
 use tally::Net;
-use terms::{Action, Fault, MAX_BALANCE, Transaction};
+use terms::{Action, Cause, Fault, MAX_BALANCE, Transaction};
 
 // A number as a balance, where it is in range.
 fn as_balance(value: u128) -> Option<u64>
@@ -42,21 +42,21 @@ fn moved(had: u64, plus: u128, minus: u128) -> Option<u64>
 
 // Brings one net to its balance. A net that changes nothing is passed over.
 fn apply<S: AccountStore>(store: &mut S, net: Net<Slot>) -> Result<(), Fault>
-    ensures { AppliedOr (net ∷ []) (S.AccountStore.ledger store.old).store (S.AccountStore.ledger store.new).store result }
+    ensures { AppliedOr (net ∷ []) (S.store store.old) (S.store store.new) result }
 {
     if net.plus == net.minus {
         return Ok(());
     }
     let had = store.balance(net.key.account, net.key.asset);
     match moved(had, net.plus, net.minus) {
-        None => Err(refusal(31)),
+        None => Err(Cause::BadOperand.into()),
         Some(value) => store.set_balance(net.key.account, net.key.asset, value),
     }
 }
 
 // Brings all nets to their balances. Refuses only where an account does not stand or a new balance is out of range.
 pub fn apply_nets<S: AccountStore>(store: &mut S, nets: &[Net<Slot>]) -> Result<(), Fault>
-    ensures { AppliedOr nets.now (S.AccountStore.ledger store.old).store (S.AccountStore.ledger store.new).store result }
+    ensures { AppliedOr nets.now (S.store store.old) (S.store store.new) result }
 {
     for net in nets {
         apply(store, *net)?;
@@ -66,7 +66,7 @@ pub fn apply_nets<S: AccountStore>(store: &mut S, nets: &[Net<Slot>]) -> Result<
 
 // Raises the floor of a transaction's source to its sequence number, where that is above it.
 fn raise<S: AccountStore>(store: &mut S, t: Transaction) -> Result<(), Fault>
-    ensures { RaisedOr (t ∷ []) (S.AccountStore.ledger store.old).store (S.AccountStore.ledger store.new).store result }
+    ensures { RaisedOr (t ∷ []) (S.store store.old) (S.store store.new) result }
 {
     let floor = store.floor(t.source);
     if floor < t.sequence {
@@ -80,7 +80,7 @@ pub fn raise_floors<S: AccountStore>(
     store: &mut S,
     transactions: &[Transaction],
 ) -> Result<(), Fault>
-    ensures { RaisedOr transactions.now (S.AccountStore.ledger store.old).store (S.AccountStore.ledger store.new).store result }
+    ensures { RaisedOr transactions.now (S.store store.old) (S.store store.new) result }
 {
     for t in transactions {
         raise(store, *t)?;
@@ -90,7 +90,7 @@ pub fn raise_floors<S: AccountStore>(
 
 // Opens the account that a transaction creates, if it creates one.
 fn open<S: AccountStore>(store: &mut S, t: Transaction) -> Result<(), Fault>
-    ensures { OpenedOr (created t) (S.AccountStore.ledger store.old).store (S.AccountStore.ledger store.new).store result }
+    ensures { OpenedOr (created t) (S.store store.old) (S.store store.new) result }
 {
     match t.action {
         Action::Create { account } => store.open(account),
@@ -103,7 +103,7 @@ pub fn open_accounts<S: AccountStore>(
     store: &mut S,
     transactions: &[Transaction],
 ) -> Result<(), Fault>
-    ensures { OpenedOr (flat_map created transactions.now) (S.AccountStore.ledger store.old).store (S.AccountStore.ledger store.new).store result }
+    ensures { OpenedOr (flat_map created transactions.now) (S.store store.old) (S.store store.new) result }
 {
     for t in transactions {
         open(store, *t)?;

@@ -42,7 +42,7 @@ fn settle<S: AccountStore, B: OfferBook>(
     rates: Rates,
 ) -> Result<Fill, Fault>
     requires { (rest ≤ largest) × ((rates.sold < 2 ^ 24) × (0 < rates.bought)) }
-    ensures { Settles key rest rates (S.AccountStore.ledger store.old).store (S.AccountStore.ledger store.new).store (B.OfferBook.orders book.old).book (B.OfferBook.orders book.new).book result }
+    ensures { Settles key rest rates (S.store store.old) (S.store store.new) (B.book book.old) (B.book book.new) result }
 {
     let amount = book.amount(key);
     let sold = if amount < rest { amount } else { rest };
@@ -73,10 +73,10 @@ fn turn<S: AccountStore, B: OfferBook>(
 ) -> Result<Option<Fill>, Fault>
     requires { (0 < rest) × ((rest ≤ largest) × ((rates.sold < 2 ^ 24) × ((0 < rates.bought) × (rates.bought < 2 ^ 24)))) }
     ensures bounded { Bounded rest rates result }
-    ensures kept { SameRoom (B.OfferBook.orders book.old).book.capacity (B.OfferBook.orders book.new).book.capacity result }
+    ensures kept { SameRoom (B.book book.old).capacity (B.book book.new).capacity result }
     ensures turned { (s : State) (b : Block) (first : Store) → Priced s b first at.sold at.bought rates
-        → At s b first at.sold at.bought at rest (S.AccountStore.ledger store.old).store (B.OfferBook.orders book.old).book.offers
-        → Turned s b first at.sold at.bought at rest (S.AccountStore.ledger store.new).store (B.OfferBook.orders book.new).book.offers result }
+        → At s b first at.sold at.bought at rest (S.store store.old) (B.book book.old).offers
+        → Turned s b first at.sold at.bought at rest (S.store store.new) (B.book book.new).offers result }
 {
     match book.next(at) {
         None => Ok(None),
@@ -98,11 +98,11 @@ fn walk_pair<S: AccountStore, B: OfferBook>(
     rates: Rates,
 ) -> Result<u64, Fault>
     requires { (volume.amount ≤ largest) × ((rates.sold < 2 ^ 24) × ((0 < rates.bought) × (rates.bought < 2 ^ 24))) }
-    ensures kept { SameRoom (B.OfferBook.orders book.old).book.capacity (B.OfferBook.orders book.new).book.capacity result }
+    ensures kept { SameRoom (B.book book.old).capacity (B.book book.new).capacity result }
     ensures walked { (s : State) (b : Block) (first : Store) → Priced s b first volume.sold volume.bought rates
         → volume.amount ≡ volumeIn b volume.sold volume.bought
-        → Walked s b first (volume.sold ∷ volume.bought ∷ []) (S.AccountStore.ledger store.old).store (B.OfferBook.orders book.old).book.offers
-        → PairDone s b first volume.sold volume.bought (S.AccountStore.ledger store.new).store (B.OfferBook.orders book.new).book.offers result }
+        → Walked s b first (volume.sold ∷ volume.bought ∷ []) (S.store store.old) (B.book book.old).offers
+        → PairDone s b first volume.sold volume.bought (S.store store.new) (B.book book.new).offers result }
 {
     let mut rest = volume.amount;
     let mut out: u64 = 0;
@@ -137,11 +137,11 @@ fn walk_volumes<S: AccountStore, B: OfferBook>(
     volumes: &[Volume],
 ) -> Result<[u64; 8], Fault>
     requires { (every is_price prices.now ≡ true) × (every fit_volume volumes.now ≡ true) }
-    ensures kept { SameRoom (B.OfferBook.orders book.old).book.capacity (B.OfferBook.orders book.new).book.capacity result }
+    ensures kept { SameRoom (B.book book.old).capacity (B.book book.new).capacity result }
     ensures filled { (s : State) (b : Block) → Holds b prices.now volumes.now
-        → Ready s b (S.AccountStore.ledger store.old).store
-        → ((j : Key) → amount_at (B.OfferBook.orders book.old).book.offers j ≡ amount_at (trading s b) j)
-        → FillsDone s b (S.AccountStore.ledger store.old).store (S.AccountStore.ledger store.new).store (B.OfferBook.orders book.new).book.offers result }
+        → Ready s b (S.store store.old)
+        → ((j : Key) → amount_at (B.book book.old).offers j ≡ amount_at (trading s b) j)
+        → FillsDone s b (S.store store.old) (S.store store.new) (B.book book.new).offers result }
 {
     let mut outs = [0u64; 8];
     for v in volumes {
@@ -164,10 +164,10 @@ pub fn walk_all<S: AccountStore, B: OfferBook>(
     book: &mut B,
     block: &DecodedBlock,
 ) -> Result<[u64; 8], Fault>
-    ensures kept { SameRoom (B.OfferBook.orders book.old).book.capacity (B.OfferBook.orders book.new).book.capacity result }
-    ensures filled { (s : State) → Ready s (block_of block.now) (S.AccountStore.ledger store.old).store
-        → ((j : Key) → amount_at (B.OfferBook.orders book.old).book.offers j ≡ amount_at (trading s (block_of block.now)) j)
-        → FillsDone s (block_of block.now) (S.AccountStore.ledger store.old).store (S.AccountStore.ledger store.new).store (B.OfferBook.orders book.new).book.offers result }
+    ensures kept { SameRoom (B.book book.old).capacity (B.book book.new).capacity result }
+    ensures filled { (s : State) → Ready s (block_of block.now) (S.store store.old)
+        → ((j : Key) → amount_at (B.book book.old).offers j ≡ amount_at (trading s (block_of block.now)) j)
+        → FillsDone s (block_of block.now) (S.store store.old) (S.store store.new) (B.book book.new).offers result }
 {
     walk_volumes(store, book, block.prices(), block.volumes())
 }

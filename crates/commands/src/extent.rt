@@ -2,8 +2,8 @@
 ghost use Rattle.std.specs.Result.{MatchResult};
 ghost use Rattle.commands.specs.Extent.{Ends, Endless};
 
-use crate::parser::{fault_at, skip};
-use terms::Fault;
+use crate::parser::skip;
+use terms::{Cause, Fault};
 
 // How many bytes there are up to and with the first end command; or fault 3, no letter of a command stands at a place;
 // 2, the bytes end before an end command. Only letters and widths are looked at.
@@ -18,5 +18,5 @@ pub fn length(bytes: &[u8]) -> Result<usize, Fault>
         }
         at = next;
     }
-    Err(fault_at(2, at))
+    Err(Cause::Unfinished.at_byte(at))
 }

@@ -9,5 +9,6 @@ mod ranges;
 
 pub use command::{Command, Reading};
 pub use extent::length;
-pub use parser::{fault_at, parse, read, skip};
+pub use parser::{parse, read, skip};
 pub use ranges::{eight_balances, in_range};
+pub use terms::fault_at;

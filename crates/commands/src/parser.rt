@@ -8,18 +8,7 @@ ghost use Rattle.commands.specs.Shown.{shown, told, skipped_to};
 
 use crate::command::{Command, Reading};
 use crate::ranges::in_range;
-use terms::Fault;
-
-// A fault at a byte place.
-pub fn fault_at(number: u8, at: usize) -> Fault
-    ensures { result ≡ record { number = number; first = at; second = 0 } }
-{
-    Fault {
-        number,
-        first: at as u64,
-        second: 0,
-    }
-}
+use terms::{Cause, Fault};
 
 // How many bytes a command has, with its letter; 0 for a byte that is no letter of a command.
 pub(crate) fn width_of(letter: u8) -> usize
@@ -207,14 +196,14 @@ pub fn skip(bytes: &[u8], at: usize) -> Result<usize, Fault>
     ensures { skipped_to result ≡ skipped bytes.now at }
 {
     if at >= bytes.len() {
-        return Err(fault_at(2, at));
+        return Err(Cause::Unfinished.at_byte(at));
     }
     let width = width_of(bytes[at]);
     if width == 0 {
-        return Err(fault_at(3, at));
+        return Err(Cause::NoCommand.at_byte(at));
     }
     if bytes.len() - at < width {
-        return Err(fault_at(2, at));
+        return Err(Cause::Unfinished.at_byte(at));
     }
     Ok(at + width)
 }
@@ -237,7 +226,7 @@ pub fn read<'a>(bytes: &'a [u8], at: usize) -> Result<Reading<'a>, Fault>
 {
     let reading = parse(bytes, at)?;
     if !in_range(&reading.command) {
-        return Err(fault_at(5, at));
+        return Err(Cause::OutOfRange.at_byte(at));
     }
     Ok(reading)
 }

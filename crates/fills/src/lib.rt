@@ -26,7 +26,7 @@ use terms::{Key, Transaction};
 
 // The amount in trade under a key: what stands, unless it is cancelled, and what is newly placed.
 fn amount_in_trade<B: OfferBook>(book: &B, transactions: &[Transaction], key: Key) -> u128
-    ensures { result ≡ amount_at (trading (scene no_store (B.OfferBook.orders book.now).book 0 []) (bundle transactions.now)) key }
+    ensures { result ≡ amount_at (trading (scene no_store (B.book book.now) 0 []) (bundle transactions.now)) key }
 {
     let placed = sum(&Placing { key }, transactions);
     if sum(&Cancelling { key }, transactions) > 0 {
@@ -38,7 +38,7 @@ fn amount_in_trade<B: OfferBook>(book: &B, transactions: &[Transaction], key: Ke
 // What is in trade ahead of a key: what stands, less the cancelled, and what is newly placed. This is so where no
 // offer is cancelled twice.
 fn amount_ahead<B: OfferBook>(book: &B, transactions: &[Transaction], key: Key) -> u128
-    ensures { ((k : Key) → cancels_of (bundle transactions.now) k ≤ 1) → result ≡ sum_ahead key (trading (scene no_store (B.OfferBook.orders book.now).book 0 []) (bundle transactions.now)) }
+    ensures { ((k : Key) → cancels_of (bundle transactions.now) k ≤ 1) → result ≡ sum_ahead key (trading (scene no_store (B.book book.now) 0 []) (bundle transactions.now)) }
 {
     let placed = sum(&PlacedAhead { key }, transactions);
     let cancelled = sum(&CancelledAhead { book, key }, transactions);
@@ -60,7 +60,7 @@ fn pay_for(prices: &[u32; 8], sold: u8, bought: u8, units: u64) -> u128
 // What a block without fault sells of a key, and what it pays for it. Both are 0 for a key that is not eligible, is not in
 // trade or is not reached.
 pub fn filled<B: OfferBook>(book: &B, block: &DecodedBlock, key: Key) -> (u64, u64)
-    ensures { (s : State) → s.book ≡ (B.OfferBook.orders book.now).book → Verdict s (block_of block.now) None → (result.0 ≡ sold s (block_of block.now) key) × (result.1 ≡ paid s (block_of block.now) key) }
+    ensures { (s : State) → s.book ≡ (B.book book.now) → Verdict s (block_of block.now) None → (result.0 ≡ sold s (block_of block.now) key) × (result.1 ≡ paid s (block_of block.now) key) }
 {
     let prices = block.prices();
     if !eligible(prices, key) {

@@ -168,7 +168,7 @@ pub(crate) struct CancelledAhead<'a, B> {
 }
 
 impl<'a, B: OfferBook> Measure<Transaction> for CancelledAhead<'a, B> {
-    ghost measure = { λ m t. sum_by (λ k. (if ahead m.key k then amount_at (B.OfferBook.orders m.book.now).book.offers k else 0)) (cancelledBy t) };
+    ghost measure = { λ m t. sum_by (λ k. (if ahead m.key k then amount_at (B.book m.book.now).offers k else 0)) (cancelledBy t) };
 
     fn count(&self, t: Transaction) -> u64 {
         match cancelled(t) {

@@ -9,7 +9,7 @@ use terms::Key;
 
 // The sum of the offers that stand between two keys.
 fn sum_between<B: OfferBook>(book: &B, low: Key, high: Key) -> u64
-    ensures { result ≡ between (words low) (words high) (B.OfferBook.orders book.now).book.offers }
+    ensures { result ≡ between (words low) (words high) (B.book book.now).offers }
 {
     let mut total: u64 = 0;
     let mut last = low;
@@ -25,7 +25,7 @@ fn sum_between<B: OfferBook>(book: &B, low: Key, high: Key) -> u64
 
 // The sum of the offers of the key's pair that stand before it: those of lower limits, and those of the same limit.
 pub(crate) fn standing_ahead<B: OfferBook>(book: &B, key: Key) -> u64
-    ensures { result ≡ sum_ahead key (B.OfferBook.orders book.now).book.offers }
+    ensures { result ≡ sum_ahead key (B.book book.now).offers }
 {
     let first = Key {
         sold: key.sold,

@@ -12,11 +12,11 @@ ghost use Rattle.tally.specs.Least.{Told, fault_of};
 ghost use Rattle.founding.specs.Judged.{once, is_bad};
 ghost use Rattle.founding.specs.Granting.{GrantedOr};
 
-use accounts::{AccountStore, open_with, refusal};
+use accounts::{AccountStore, open_with};
 use blocks::DecodedFounding;
 use ordered::{Amounts, total};
 use tally::{Effect, Gather, Net, Place, Rule, report, sums};
-use terms::{Fault, Grant, MAX_BALANCE};
+use terms::{Cause, Fault, Grant, MAX_BALANCE};
 
 // The accounts that the grants name: each grant counts once, at its account.
 #[derive(Drop)]
@@ -58,7 +58,7 @@ impl Rule<Net<Place>> for Grantable {
 // 15: each account is in one grant, and none is above the top. Of more than 1,024 grants, as no readable founding has,
 // it refuses with fault 6.
 fn accounts_good<S: AccountStore>(store: &S, grants: &[Grant]) -> Result<(), Fault>
-    ensures row { length grants.now ≤ 1024 → Told (Objected (S.AccountStore.ledger store.now).store grants.now bad_grant) 15 result }
+    ensures row { length grants.now ≤ 1024 → Told (Objected (S.store store.now) grants.now bad_grant) 15 result }
     ensures many { 1024 < length grants.now → result ≡ Err (fault 6 0 0) }
 {
     let none = Place {
@@ -76,17 +76,17 @@ fn accounts_good<S: AccountStore>(store: &S, grants: &[Grant]) -> Result<(), Fau
         minus: 0,
     }; 2048];
     match sums(&Grantees, grants, &mut effects, &mut nets) {
-        None => Err(refusal(6)),
-        Some(n) => report(&Grantable { top: store.top() }, 15, &nets[0..n]),
+        None => Err(Cause::TooManyTransactions.into()),
+        Some(n) => report(&Grantable { top: store.top() }, Cause::BadAccount as u8, &nets[0..n]),
     }
 }
 
 // 19: there is room for as many accounts as there are grants.
 fn accounts_fit<S: AccountStore>(store: &S, grants: &[Grant]) -> Result<(), Fault>
-    ensures { Told (Objected (S.AccountStore.ledger store.now).store grants.now too_many_grants) 19 result }
+    ensures { Told (Objected (S.store store.now) grants.now too_many_grants) 19 result }
 {
     if (store.capacity() as usize) < grants.len() {
-        return Err(refusal(19));
+        return Err(Cause::AccountsFull.into());
     }
     Ok(())
 }
@@ -116,11 +116,7 @@ fn amounts_fit(grants: &[Grant]) -> Result<(), Fault>
 {
     for number in 0u8..8 {
         if total(grants, Asset { number }) > MAX_BALANCE {
-            return Err(Fault {
-                number: 23,
-                first: number as u64,
-                second: 0,
-            });
+            return Err(Cause::ExcessGrants.at(number as u64, 0));
         }
     }
     Ok(())
@@ -128,7 +124,7 @@ fn amounts_fit(grants: &[Grant]) -> Result<(), Fault>
 
 // The verdict on a founding over this store: its grants are good, or the answer is their least fault.
 pub fn judge_founding<S: AccountStore>(store: &S, founding: &DecodedFounding) -> Result<(), Fault>
-    ensures { FoundingVerdict (S.AccountStore.ledger store.now).store (grants_of founding.now) (fault_of result) }
+    ensures { FoundingVerdict (S.store store.now) (grants_of founding.now) (fault_of result) }
 {
     let grants = founding.grants();
     accounts_good(store, grants)?;
@@ -139,7 +135,7 @@ pub fn judge_founding<S: AccountStore>(store: &S, founding: &DecodedFounding) ->
 // Opens the accounts of all grants, each with its balances. Over an empty store, and where no fault was found in the
 // grants, this is never refused.
 pub fn grant_all<S: AccountStore>(store: &mut S, founding: &DecodedFounding) -> Result<(), Fault>
-    ensures { length (S.AccountStore.ledger store.old).store.accounts ≡ 0 → FoundingVerdict (S.AccountStore.ledger store.old).store (grants_of founding.now) None → GrantedOr (S.AccountStore.ledger store.old).store (grants_of founding.now) (S.AccountStore.ledger store.new).store result }
+    ensures { length (S.store store.old).accounts ≡ 0 → FoundingVerdict (S.store store.old) (grants_of founding.now) None → GrantedOr (S.store store.old) (grants_of founding.now) (S.store store.new) result }
 {
     let grants = founding.grants();
     for grant in grants {

@@ -12,9 +12,9 @@ ghost use Rattle.hashed_store.specs.declared.entry.Entry.{Entry};
 ghost use Rattle.hashed_store.specs.Index.{number, lying, store_of, laid, taken, Found};
 ghost use Rattle.hashed_store.specs.Probing.{start, turned, seen, has, Probed};
 
-use accounts::{AccountStore, MAX_ACCOUNTS, new_account, refusal};
+use accounts::{AccountStore, MAX_ACCOUNTS, new_account};
 use ordered::{Amounts, Table, total};
-use terms::{Account, Fault, MAX_BALANCE};
+use terms::{Account, Cause, Fault, MAX_BALANCE};
 
 mod entry;
 mod probe;
@@ -84,7 +84,9 @@ impl<'a> HashedStore<'a> {
 }
 
 impl<'a> AccountStore for HashedStore<'a> {
-    ghost ledger = { λ s. record { store = store_of s.top s.tables.slots.now (take s.tables.order.len s.tables.order.slots.now); sound = s.sound } };
+    ghost store = { λ s. store_of s.top s.tables.slots.now (take s.tables.order.len s.tables.order.slots.now) };
+
+    ghost sound = { λ s. s.sound };
 
     fn stands(&self, number: u32) -> bool {
         match self.find(number) {
@@ -130,15 +132,15 @@ impl<'a> AccountStore for HashedStore<'a> {
 
     fn open(&mut self, number: u32) -> Result<(), Fault> {
         if number == 0 || number > self.top {
-            return Err(refusal(27));
+            return Err(Cause::NoSuchAccount.into());
         }
         match self.tables.probe(number) {
-            Probe::Held(_) => Err(refusal(28)),
-            Probe::Full => Err(refusal(29)),
+            Probe::Held(_) => Err(Cause::StandsAlready.into()),
+            Probe::Full => Err(Cause::NoRoom.into()),
             Probe::Free(j) => {
                 let n = self.tables.order.len();
                 if n >= self.tables.slots.len() {
-                    return Err(refusal(29));
+                    return Err(Cause::NoRoom.into());
                 }
                 match self.tables.order.search(number) {
                     Ok(_) => unreachable(),
@@ -159,13 +161,13 @@ impl<'a> AccountStore for HashedStore<'a> {
         match self.find(number) {
             Some((s, mut a)) => {
                 if asset >= 8 || value > MAX_BALANCE {
-                    return Err(refusal(31));
+                    return Err(Cause::BadOperand.into());
                 }
                 a.balances[asset as usize] = value;
                 self.tables.write(s, a);
                 Ok(())
             }
-            None => Err(refusal(30)),
+            None => Err(Cause::Absent.into()),
         }
     }
 
@@ -176,7 +178,7 @@ impl<'a> AccountStore for HashedStore<'a> {
                 self.tables.write(s, a);
                 Ok(())
             }
-            None => Err(refusal(30)),
+            None => Err(Cause::Absent.into()),
         }
     }
 }

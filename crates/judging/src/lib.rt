@@ -37,7 +37,7 @@ fn judge_transactions<S: AccountStore, B: OfferBook>(
     book: &B,
     block: &DecodedBlock,
 ) -> Result<(), Fault>
-    ensures { (h : ℕ) (d : List ℕ) → Stage (scene (S.AccountStore.ledger store.now).store (B.OfferBook.orders book.now).book h d) (block_of block.now) 11 18 result }
+    ensures { (h : ℕ) (d : List ℕ) → Stage (scene (S.store store.now) (B.book book.now) h d) (block_of block.now) 11 18 result }
 {
     let transactions = block.transactions();
     sources_stand(store, transactions)?;
@@ -55,7 +55,7 @@ fn judge_totals<S: AccountStore, B: OfferBook>(
     book: &B,
     block: &DecodedBlock,
 ) -> Result<(), Fault>
-    ensures { ((k : Key) → cancels_of (block_of block.now) k ≤ 1) → (h : ℕ) (d : List ℕ) → Stage (scene (S.AccountStore.ledger store.now).store (B.OfferBook.orders book.now).book h d) (block_of block.now) 18 22 result }
+    ensures { ((k : Key) → cancels_of (block_of block.now) k ≤ 1) → (h : ℕ) (d : List ℕ) → Stage (scene (S.store store.now) (B.book book.now) h d) (block_of block.now) 18 22 result }
 {
     let transactions = block.transactions();
     balances_covered(store, book, transactions)?;
@@ -72,7 +72,7 @@ pub fn judge<S: AccountStore, B: OfferBook>(
     digest: &[u8; 32],
     block: &DecodedBlock,
 ) -> Result<(), Fault>
-    ensures { Judges (S.AccountStore.ledger store.now).store (B.OfferBook.orders book.now).book height digest.now (block_of block.now) result }
+    ensures { Judges (S.store store.now) (B.book book.now) height digest.now (block_of block.now) result }
 {
     judge_heading(height, digest, block)?;
     judge_transactions(store, book, block)?;

@@ -12,11 +12,11 @@ ghost use Rattle.tally.specs.Tally.{roomy, Tallied};
 ghost use Rattle.judging_rules.specs.Rows.{Row, scene, bundle};
 ghost use Rattle.judging_balances.specs.Moves.{moves, slot_words};
 
-use accounts::{AccountStore, refusal};
+use accounts::AccountStore;
 use offers::OfferBook;
 use ordered::SortKey;
 use tally::{Effect, Gather, Net, Place, Placed, Rule, report, sums};
-use terms::{Action, Fault, Key, Transaction};
+use terms::{Action, Cause, Fault, Key, Transaction};
 
 // An account's balance of an asset.
 #[derive(Clone, Copy)]
@@ -53,7 +53,7 @@ struct Moves<'a, B> {
 }
 
 impl<'a, B: OfferBook> Gather<Transaction, Slot> for Moves<'a, B> {
-    ghost gives = { λ m t. moves (amount_at (B.OfferBook.orders m.book.now).book.offers) t };
+    ghost gives = { λ m t. moves (amount_at (B.book m.book.now).offers) t };
 
     fn parts(&self, t: Transaction) -> (Option<Effect<Slot>>, Option<Effect<Slot>>) {
         match t.action {
@@ -115,7 +115,7 @@ pub fn nets<B: OfferBook>(
     effects: &mut [Effect<Slot>],
     nets: &mut [Net<Slot>],
 ) -> Option<usize>
-    ensures { MatchOption result (roomy (length transactions.now) (length effects.old) (length nets.old) ≡ false) (λ n. (roomy (length transactions.now) (length effects.old) (length nets.old) ≡ true) × (n ≤ 2048) × Tallied slot_words (flat_map (moves (amount_at (B.OfferBook.orders book.now).book.offers)) transactions.now) (take n nets.new)) }
+    ensures { MatchOption result (roomy (length transactions.now) (length effects.old) (length nets.old) ≡ false) (λ n. (roomy (length transactions.now) (length effects.old) (length nets.old) ≡ true) × (n ≤ 2048) × Tallied slot_words (flat_map (moves (amount_at (B.book book.now).offers)) transactions.now) (take n nets.new)) }
 {
     sums(&Moves { book }, transactions, effects, nets)
 }
@@ -127,7 +127,7 @@ struct Covered<'a, S> {
 }
 
 impl<'a, S: AccountStore> Rule<Net<Slot>> for Covered<'a, S> {
-    ghost broken = { λ r n. nat_lt n.key.asset 8 && nat_lt (balance_at (S.AccountStore.ledger r.store.now).store n.key.account n.key.asset + n.plus) n.minus };
+    ghost broken = { λ r n. nat_lt n.key.asset 8 && nat_lt (balance_at (S.store r.store.now) n.key.account n.key.asset + n.plus) n.minus };
 
     fn breaks(&self, net: Net<Slot>) -> bool {
         let free = self.store.balance(net.key.account, net.key.asset) as u128;
@@ -141,7 +141,7 @@ pub fn balances_covered<S: AccountStore, B: OfferBook>(
     book: &B,
     transactions: &[Transaction],
 ) -> Result<(), Fault>
-    ensures row { length transactions.now ≤ 1024 → Row (scene (S.AccountStore.ledger store.now).store (B.OfferBook.orders book.now).book 0 []) (bundle transactions.now) overdrawn result }
+    ensures row { length transactions.now ≤ 1024 → Row (scene (S.store store.now) (B.book book.now) 0 []) (bundle transactions.now) overdrawn result }
     ensures many { 1024 < length transactions.now → result ≡ Err (fault 6 0 0) }
 {
     let none = Slot {
@@ -159,7 +159,7 @@ pub fn balances_covered<S: AccountStore, B: OfferBook>(
         minus: 0,
     }; 2048];
     match nets(book, transactions, &mut effects, &mut entries) {
-        None => Err(refusal(6)),
-        Some(n) => report(&Covered { store }, 18, &entries[0..n]),
+        None => Err(Cause::TooManyTransactions.into()),
+        Some(n) => report(&Covered { store }, Cause::Overdrawn as u8, &entries[0..n]),
     }
 }

@@ -7,19 +7,14 @@ ghost use Rattle.exchange.specs.Faults.Cause.{wrong_height, wrong_parent};
 ghost use Rattle.judging_rules.specs.Rows.{Row, scene, no_store, no_book};
 ghost use Rattle.judging_heading.specs.Heading.{heading};
 
-use accounts::refusal;
-use terms::Fault;
+use terms::{Cause, Fault};
 
 // The block's height is the replica's own + 1.
 pub fn height_follows(own: u32, height: u32) -> Result<(), Fault>
     ensures { Row (scene no_store no_book own []) (heading height []) wrong_height result }
 {
     if height as u64 != own as u64 + 1 {
-        return Err(Fault {
-            number: 8,
-            first: height as u64,
-            second: own as u64,
-        });
+        return Err(Cause::WrongHeight.at(height as u64, own as u64));
     }
     Ok(())
 }
@@ -31,5 +26,5 @@ pub fn parent_matches(digest: &[u8; 32], parent: &[u8; 32]) -> Result<(), Fault>
     if *parent == *digest {
         return Ok(());
     }
-    Err(refusal(9))
+    Err(Cause::WrongParent.into())
 }

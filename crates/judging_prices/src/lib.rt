@@ -9,9 +9,8 @@ ghost use Rattle.exchange.specs.Faults.Cause.{uncleared};
 ghost use Rattle.judging_rules.specs.Rows.{Row, scene, no_store, no_book, deal};
 ghost use Rattle.judging_prices.specs.Worth.{worth_of, worth_at};
 
-use accounts::refusal;
 use tally::{Place, Placed, Rule, report};
-use terms::{Fault, Volume};
+use terms::{Cause, Fault, Volume};
 
 // As many pairs as there are.
 pub const MAX_VOLUMES: usize = 56;
@@ -114,7 +113,7 @@ pub fn prices_clear<'a>(prices: &'a [u32; 8], volumes: &'a [Volume]) -> Result<(
     ensures many { 56 < length volumes.now → result ≡ Err (fault 4 0 0) }
 {
     if volumes.len() > MAX_VOLUMES {
-        return Err(refusal(4));
+        return Err(Cause::OutOfTurn.into());
     }
     let assets = [
         Asset { number: 0 },
@@ -126,5 +125,5 @@ pub fn prices_clear<'a>(prices: &'a [u32; 8], volumes: &'a [Volume]) -> Result<(
         Asset { number: 6 },
         Asset { number: 7 },
     ];
-    report(&Clearing { prices, volumes }, 10, &assets)
+    report(&Clearing { prices, volumes }, Cause::Uncleared as u8, &assets)
 }

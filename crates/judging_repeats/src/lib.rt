@@ -12,9 +12,9 @@ ghost use Rattle.exchange.specs.Faults.Cause.{repeated, bad_account, cancelled_t
 ghost use Rattle.judging_rules.specs.Rows.{Row, scene, no_store, no_book, bundle, any};
 ghost use Rattle.judging_repeats.specs.Counts.{ones, tagged, is_bad};
 
-use accounts::{AccountStore, refusal};
+use accounts::AccountStore;
 use tally::{Effect, Gather, Net, Place, Rule, look_up, report, sums};
-use terms::{Action, Fault, Key, Transaction};
+use terms::{Action, Cause, Fault, Key, Transaction};
 
 #[derive(Drop)]
 struct Tags;
@@ -69,8 +69,8 @@ pub fn tags_differ(transactions: &[Transaction]) -> Result<(), Fault>
         minus: 0,
     }; 2048];
     match sums(&Tags, transactions, &mut effects, &mut nets) {
-        None => Err(refusal(6)),
-        Some(n) => report(&Single, 13, &nets[0..n]),
+        None => Err(Cause::TooManyTransactions.into()),
+        Some(n) => report(&Single, Cause::Repeated as u8, &nets[0..n]),
     }
 }
 
@@ -97,7 +97,7 @@ impl Gather<Transaction, u32> for Openings {
 
 // Whether a new account stands, is above the top, or is opened more than once, where the nets are in order.
 fn is_bad<S: AccountStore>(store: &S, nets: &[Net<u32>], account: u32) -> bool
-    ensures { Rising (λ x. x.key ∷ []) nets.now → result ≡ is_bad (S.AccountStore.ledger store.now).store nets.now account }
+    ensures { Rising (λ x. x.key ∷ []) nets.now → result ≡ is_bad (S.store store.now) nets.now account }
 {
     if store.stands(account) {
         return true;
@@ -116,7 +116,7 @@ struct Fresh<'a, S> {
 }
 
 impl<'a, S: AccountStore> Rule<Transaction> for Fresh<'a, S> {
-    ghost broken = { λ r t. any (is_bad (S.AccountStore.ledger r.store.now).store r.nets.now) (created t) };
+    ghost broken = { λ r t. any (is_bad (S.store r.store.now) r.nets.now) (created t) };
 
     ghost ready = { λ r. Rising (λ x. x.key ∷ []) r.nets.now };
 
@@ -130,7 +130,7 @@ impl<'a, S: AccountStore> Rule<Transaction> for Fresh<'a, S> {
 
 // Each new account does not stand, is not above the top and is in one creation only.
 pub fn openings_good<S: AccountStore>(store: &S, transactions: &[Transaction]) -> Result<(), Fault>
-    ensures row { length transactions.now ≤ 1024 → Row (scene (S.AccountStore.ledger store.now).store no_book 0 []) (bundle transactions.now) bad_account result }
+    ensures row { length transactions.now ≤ 1024 → Row (scene (S.store store.now) no_book 0 []) (bundle transactions.now) bad_account result }
     ensures many { 1024 < length transactions.now → result ≡ Err (fault 6 0 0) }
 {
     let mut effects = [Effect {
@@ -144,13 +144,13 @@ pub fn openings_good<S: AccountStore>(store: &S, transactions: &[Transaction]) -
         minus: 0,
     }; 2048];
     match sums(&Openings, transactions, &mut effects, &mut nets) {
-        None => Err(refusal(6)),
+        None => Err(Cause::TooManyTransactions.into()),
         Some(n) => report(
             &Fresh {
                 store,
                 nets: &nets[0..n],
             },
-            15,
+            Cause::BadAccount as u8,
             transactions,
         ),
     }
@@ -240,7 +240,7 @@ pub fn cancelled_once(transactions: &[Transaction]) -> Result<(), Fault>
         minus: 0,
     }; 2048];
     match sums(&Cancellations, transactions, &mut effects, &mut nets) {
-        None => Err(refusal(6)),
-        Some(n) => report(&CancelledOnce { nets: &nets[0..n] }, 17, transactions),
+        None => Err(Cause::TooManyTransactions.into()),
+        Some(n) => report(&CancelledOnce { nets: &nets[0..n] }, Cause::CancelledTwice as u8, transactions),
     }
 }

@@ -8,11 +8,11 @@ ghost use Rattle.exchange.specs.Faults.Cause.{accounts_full, offers_full};
 ghost use Rattle.judging_rules.specs.Rows.{Row, scene, no_store, no_book, bundle};
 ghost use Rattle.judging_room.specs.Asks.{asks};
 
-use accounts::{AccountStore, refusal};
+use accounts::AccountStore;
 use offers::OfferBook;
 use ordered::{Amounts, total};
 use tally::MAX_ITEMS;
-use terms::{Action, Fault, Transaction};
+use terms::{Action, Cause, Fault, Transaction};
 
 // What may be counted of transactions.
 #[derive(Clone, Copy)]
@@ -46,35 +46,35 @@ impl Amounts<Ask> for Transaction {
 
 // The accounts that stand and the new ones do not exceed the store's capacity.
 pub fn accounts_fit<S: AccountStore>(store: &S, transactions: &[Transaction]) -> Result<(), Fault>
-    ensures row { length transactions.now ≤ 1024 → Row (scene (S.AccountStore.ledger store.now).store no_book 0 []) (bundle transactions.now) accounts_full result }
+    ensures row { length transactions.now ≤ 1024 → Row (scene (S.store store.now) no_book 0 []) (bundle transactions.now) accounts_full result }
     ensures many { 1024 < length transactions.now → result ≡ Err (fault 6 0 0) }
 {
     if transactions.len() > MAX_ITEMS {
-        return Err(refusal(6));
+        return Err(Cause::TooManyTransactions.into());
     }
     let new = total(transactions, Ask::Creation);
     let room = store.capacity() as u128;
     let wanted = store.count() as u128 + new as u128;
     if room < wanted {
-        return Err(refusal(19));
+        return Err(Cause::AccountsFull.into());
     }
     Ok(())
 }
 
 // The offers that stand, without the cancelled and with the new ones, do not exceed the book's capacity.
 pub fn offers_fit<B: OfferBook>(book: &B, transactions: &[Transaction]) -> Result<(), Fault>
-    ensures row { length transactions.now ≤ 1024 → Row (scene no_store (B.OfferBook.orders book.now).book 0 []) (bundle transactions.now) offers_full result }
+    ensures row { length transactions.now ≤ 1024 → Row (scene no_store (B.book book.now) 0 []) (bundle transactions.now) offers_full result }
     ensures many { 1024 < length transactions.now → result ≡ Err (fault 6 0 0) }
 {
     if transactions.len() > MAX_ITEMS {
-        return Err(refusal(6));
+        return Err(Cause::TooManyTransactions.into());
     }
     let new = total(transactions, Ask::Placement);
     let gone = total(transactions, Ask::Cancellation);
     let room = book.capacity() as u128 + gone as u128;
     let wanted = book.count() as u128 + new as u128;
     if room < wanted {
-        return Err(refusal(20));
+        return Err(Cause::OffersFull.into());
     }
     Ok(())
 }

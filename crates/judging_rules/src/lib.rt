@@ -13,7 +13,7 @@ ghost use Rattle.judging_rules.specs.Rows.{Row, scene, no_store, no_book, bundle
 use accounts::AccountStore;
 use offers::OfferBook;
 use tally::{Rule, report};
-use terms::{Action, Fault, Key, Transaction};
+use terms::{Action, Cause, Fault, Key, Transaction};
 
 // The source stands.
 #[derive(Drop)]
@@ -22,7 +22,7 @@ struct Source<'a, S> {
 }
 
 impl<'a, S: AccountStore> Rule<Transaction> for Source<'a, S> {
-    ghost broken = { λ r t. (standing (S.AccountStore.ledger r.store.now).store t.source == 0) };
+    ghost broken = { λ r t. (standing (S.store r.store.now) t.source == 0) };
 
     fn breaks(&self, t: Transaction) -> bool {
         !self.store.stands(t.source)
@@ -30,9 +30,9 @@ impl<'a, S: AccountStore> Rule<Transaction> for Source<'a, S> {
 }
 
 pub fn sources_stand<S: AccountStore>(store: &S, transactions: &[Transaction]) -> Result<(), Fault>
-    ensures { Row (scene (S.AccountStore.ledger store.now).store no_book 0 []) (bundle transactions.now) no_source result }
+    ensures { Row (scene (S.store store.now) no_book 0 []) (bundle transactions.now) no_source result }
 {
-    report(&Source { store }, 11, transactions)
+    report(&Source { store }, Cause::NoSource as u8, transactions)
 }
 
 // The sequence number is one of the 64 above the source's floor.
@@ -42,7 +42,7 @@ struct Window<'a, S> {
 }
 
 impl<'a, S: AccountStore> Rule<Transaction> for Window<'a, S> {
-    ghost broken = { λ r t. not (in_window (floor_at (S.AccountStore.ledger r.store.now).store t.source) t.sequence) };
+    ghost broken = { λ r t. not (in_window (floor_at (S.store r.store.now) t.source) t.sequence) };
 
     fn breaks(&self, t: Transaction) -> bool {
         let floor = self.store.floor(t.source);
@@ -54,9 +54,9 @@ pub fn sequences_in_window<S: AccountStore>(
     store: &S,
     transactions: &[Transaction],
 ) -> Result<(), Fault>
-    ensures { Row (scene (S.AccountStore.ledger store.now).store no_book 0 []) (bundle transactions.now) out_of_window result }
+    ensures { Row (scene (S.store store.now) no_book 0 []) (bundle transactions.now) out_of_window result }
 {
-    report(&Window { store }, 12, transactions)
+    report(&Window { store }, Cause::OutOfWindow as u8, transactions)
 }
 
 // The receiver of a payment stands.
@@ -66,7 +66,7 @@ struct Receiver<'a, S> {
 }
 
 impl<'a, S: AccountStore> Rule<Transaction> for Receiver<'a, S> {
-    ghost broken = { λ r t. any (λ p. nat_eq (standing (S.AccountStore.ledger r.store.now).store p.receiver) 0) (paying t) };
+    ghost broken = { λ r t. any (λ p. nat_eq (standing (S.store r.store.now) p.receiver) 0) (paying t) };
 
     fn breaks(&self, t: Transaction) -> bool {
         match t.action {
@@ -80,9 +80,9 @@ pub fn receivers_stand<S: AccountStore>(
     store: &S,
     transactions: &[Transaction],
 ) -> Result<(), Fault>
-    ensures { Row (scene (S.AccountStore.ledger store.now).store no_book 0 []) (bundle transactions.now) no_receiver result }
+    ensures { Row (scene (S.store store.now) no_book 0 []) (bundle transactions.now) no_receiver result }
 {
-    report(&Receiver { store }, 14, transactions)
+    report(&Receiver { store }, Cause::NoReceiver as u8, transactions)
 }
 
 // A cancelled offer stands.
@@ -92,7 +92,7 @@ struct Standing<'a, B> {
 }
 
 impl<'a, B: OfferBook> Rule<Transaction> for Standing<'a, B> {
-    ghost broken = { λ r t. any (λ k. nat_eq (amount_at (B.OfferBook.orders r.book.now).book.offers k) 0) (cancelled t) };
+    ghost broken = { λ r t. any (λ k. nat_eq (amount_at (B.book r.book.now).offers k) 0) (cancelled t) };
 
     fn breaks(&self, t: Transaction) -> bool {
         match t.action {
@@ -117,7 +117,7 @@ impl<'a, B: OfferBook> Rule<Transaction> for Standing<'a, B> {
 }
 
 pub fn cancelled_stand<B: OfferBook>(book: &B, transactions: &[Transaction]) -> Result<(), Fault>
-    ensures { Row (scene no_store (B.OfferBook.orders book.now).book 0 []) (bundle transactions.now) no_offer result }
+    ensures { Row (scene no_store (B.book book.now) 0 []) (bundle transactions.now) no_offer result }
 {
-    report(&Standing { book }, 16, transactions)
+    report(&Standing { book }, Cause::NoOffer as u8, transactions)
 }

@@ -17,11 +17,10 @@ ghost use Rattle.tally.specs.Tally.{Tallied, Small};
 ghost use Rattle.judging_rules.specs.Rows.{Row, scene, no_store, bundle, deal};
 ghost use Rattle.judging_volumes.specs.Trades.{pair_of, trades};
 
-use accounts::refusal;
 use judging_prices::price;
 use offers::OfferBook;
 use tally::{Effect, Gather, Net, Place, Rule, look_up, report, sums};
-use terms::{Action, Fault, Key, Transaction, Volume};
+use terms::{Action, Cause, Fault, Key, Transaction, Volume};
 
 // The prices meet the key's limit.
 pub fn eligible(prices: &[u32; 8], key: Key) -> bool
@@ -72,7 +71,7 @@ struct Trades<'a, B> {
 }
 
 impl<'a, B: OfferBook> Gather<Transaction, Place> for Trades<'a, B> {
-    ghost gives = { λ m t. trades m.prices.now (amount_at (B.OfferBook.orders m.book.now).book.offers) t };
+    ghost gives = { λ m t. trades m.prices.now (amount_at (B.book m.book.now).offers) t };
 
     fn parts(&self, t: Transaction) -> (Option<Effect<Place>>, Option<Effect<Place>>) {
         match t.action {
@@ -139,9 +138,9 @@ struct Supplied<'a, B> {
 }
 
 impl<'a, B: OfferBook> Rule<Volume> for Supplied<'a, B> {
-    ghost broken = { λ r v. nat_lt (supply (scene no_store (B.OfferBook.orders r.book.now).book 0 []) (deal r.prices.now [] r.transactions.now) v.sold v.bought) v.amount };
+    ghost broken = { λ r v. nat_lt (supply (scene no_store (B.book r.book.now) 0 []) (deal r.prices.now [] r.transactions.now) v.sold v.bought) v.amount };
 
-    ghost ready = { λ r. Tallied spot (flat_map (trades r.prices.now (amount_at (B.OfferBook.orders r.book.now).book.offers)) r.transactions.now) r.nets.now × AllByRecursion Small r.nets.now × ((k : Key) → cancels_of (bundle r.transactions.now) k ≤ 1) };
+    ghost ready = { λ r. Tallied spot (flat_map (trades r.prices.now (amount_at (B.book r.book.now).offers)) r.transactions.now) r.nets.now × AllByRecursion Small r.nets.now × ((k : Key) → cancels_of (bundle r.transactions.now) k ≤ 1) };
 
     fn breaks(&self, v: Volume) -> bool {
         let limit = highest_limit(self.prices, v.sold, v.bought);
@@ -164,7 +163,7 @@ pub fn volumes_supplied<'a, B: OfferBook>(
     volumes: &[Volume],
     transactions: &'a [Transaction],
 ) -> Result<(), Fault>
-    ensures row { length transactions.now ≤ 1024 → ((k : Key) → cancels_of (bundle transactions.now) k ≤ 1) → Rising pair volumes.now → Row (scene no_store (B.OfferBook.orders book.now).book 0 []) (deal prices.now volumes.now transactions.now) excess_volume result }
+    ensures row { length transactions.now ≤ 1024 → ((k : Key) → cancels_of (bundle transactions.now) k ≤ 1) → Rising pair volumes.now → Row (scene no_store (B.book book.now) 0 []) (deal prices.now volumes.now transactions.now) excess_volume result }
     ensures many { 1024 < length transactions.now → result ≡ Err (fault 6 0 0) }
 {
     let none = Place {
@@ -187,7 +186,7 @@ pub fn volumes_supplied<'a, B: OfferBook>(
         &mut effects,
         &mut nets,
     ) {
-        None => Err(refusal(6)),
+        None => Err(Cause::TooManyTransactions.into()),
         Some(n) => {
             let rule = Supplied {
                 prices,
@@ -195,7 +194,7 @@ pub fn volumes_supplied<'a, B: OfferBook>(
                 transactions,
                 nets: &nets[0..n],
             };
-            report(&rule, 21, volumes)
+            report(&rule, Cause::ExcessVolume as u8, volumes)
         }
     }
 }

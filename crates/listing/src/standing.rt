@@ -27,7 +27,7 @@ fn remainders<S: AccountStore, B: OfferBook>(replica: &Replica<S, B>) -> [u64; 8
 
 // The eight balances of an account that stands.
 fn balances<S: AccountStore, B: OfferBook>(replica: &Replica<S, B>, number: u32) -> [u64; 8]
-    ensures { (a : Account) → Has (S.AccountStore.ledger replica.now.store).store.accounts a → a.number ≡ number → result ≡ a.balances }
+    ensures { (a : Account) → Has (S.store replica.now.store).accounts a → a.number ≡ number → result ≡ a.balances }
 {
     let mut balances = [0; 8];
     for asset in 0u8..8 {
@@ -38,7 +38,7 @@ fn balances<S: AccountStore, B: OfferBook>(replica: &Replica<S, B>, number: u32)
 
 // An account that stands: its number, its floor and its balances.
 fn account<S: AccountStore, B: OfferBook>(replica: &Replica<S, B>, number: u32) -> Account
-    ensures { (a : Account) → Has (S.AccountStore.ledger replica.now.store).store.accounts a → a.number ≡ number → result ≡ a }
+    ensures { (a : Account) → Has (S.store replica.now.store).accounts a → a.number ≡ number → result ≡ a }
 {
     Account {
         number,
@@ -52,7 +52,7 @@ fn push_accounts<S: AccountStore, B: OfferBook>(
     replica: &Replica<S, B>,
     lines: &mut Vec<Line>,
 ) -> Result<(), AllocError>
-    ensures { OnOk result (lines.new.items ≡ lines.old.items ++ account_lines (S.AccountStore.ledger replica.now.store).store) }
+    ensures { OnOk result (lines.new.items ≡ lines.old.items ++ account_lines (S.store replica.now.store)) }
 {
     let mut at = 0;
     while let Some(number) = replica.next_account(at) {
@@ -67,7 +67,7 @@ fn push_offers<S: AccountStore, B: OfferBook>(
     replica: &Replica<S, B>,
     lines: &mut Vec<Line>,
 ) -> Result<(), AllocError>
-    ensures { OnOk result (lines.new.items ≡ lines.old.items ++ offer_lines (B.OfferBook.orders replica.now.book).book) }
+    ensures { OnOk result (lines.new.items ≡ lines.old.items ++ offer_lines (B.book replica.now.book)) }
 {
     let mut at = Key {
         sold: 0,
@@ -89,7 +89,7 @@ pub(crate) fn push_state<S: AccountStore, B: OfferBook>(
     replica: &Replica<S, B>,
     lines: &mut Vec<Line>,
 ) -> Result<(), AllocError>
-    ensures { Sound (state_of (S.AccountStore.ledger replica.now.store).store (B.OfferBook.orders replica.now.book).book replica.now.numbers) → OnOk result (lines.new.items ≡ lines.old.items ++ state_lines (state_of (S.AccountStore.ledger replica.now.store).store (B.OfferBook.orders replica.now.book).book replica.now.numbers)) }
+    ensures { Sound (state_of (S.store replica.now.store) (B.book replica.now.book) replica.now.numbers) → OnOk result (lines.new.items ≡ lines.old.items ++ state_lines (state_of (S.store replica.now.store) (B.book replica.now.book) replica.now.numbers)) }
 {
     lines.push(Line::Remainders(remainders(replica)))?;
     push_accounts(replica, lines)?;
@@ -100,7 +100,7 @@ pub(crate) fn push_state<S: AccountStore, B: OfferBook>(
 
 // How many checks passed, and what became of the blocks.
 pub(crate) fn counts<S: AccountStore, B: OfferBook>(replica: &Replica<S, B>) -> Line
-    ensures { result ≡ counts_line (state_of (S.AccountStore.ledger replica.now.store).store (B.OfferBook.orders replica.now.book).book replica.now.numbers) }
+    ensures { result ≡ counts_line (state_of (S.store replica.now.store) (B.book replica.now.book) replica.now.numbers) }
 {
     Line::Counts {
         passed: replica.passed(),

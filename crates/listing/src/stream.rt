@@ -26,7 +26,7 @@ fn open<'a, S: AccountStore, B: OfferBook>(
     replica: &mut Replica<S, B>,
     bytes: &'a [u8],
 ) -> Result<&'a [u8], Fault>
-    ensures { MatchResult result (λ rest. Opened (state_of (S.AccountStore.ledger replica.old.store).store (B.OfferBook.orders replica.old.book).book replica.old.numbers) bytes.now rest.now (state_of (S.AccountStore.ledger replica.new.store).store (B.OfferBook.orders replica.new.book).book replica.new.numbers)) (λ f. Unopened (state_of (S.AccountStore.ledger replica.old.store).store (B.OfferBook.orders replica.old.book).book replica.old.numbers) bytes.now f (state_of (S.AccountStore.ledger replica.new.store).store (B.OfferBook.orders replica.new.book).book replica.new.numbers)) }
+    ensures { MatchResult result (λ rest. Opened (state_of (S.store replica.old.store) (B.book replica.old.book) replica.old.numbers) bytes.now rest.now (state_of (S.store replica.new.store) (B.book replica.new.book) replica.new.numbers)) (λ f. Unopened (state_of (S.store replica.old.store) (B.book replica.old.book) replica.old.numbers) bytes.now f (state_of (S.store replica.new.store) (B.book replica.new.book) replica.new.numbers)) }
 {
     let n = length(bytes)?;
     let (piece, rest) = bytes.split_at(n);
@@ -36,7 +36,7 @@ fn open<'a, S: AccountStore, B: OfferBook>(
 
 // Checks a block and commits it at once, where it passes.
 fn take_block<S: AccountStore, B: OfferBook>(replica: &mut Replica<S, B>, bytes: &[u8]) -> Line
-    ensures { Steady (state_of (S.AccountStore.ledger replica.old.store).store (B.OfferBook.orders replica.old.book).book replica.old.numbers) → BlockTaken (state_of (S.AccountStore.ledger replica.old.store).store (B.OfferBook.orders replica.old.book).book replica.old.numbers) bytes.now result (state_of (S.AccountStore.ledger replica.new.store).store (B.OfferBook.orders replica.new.book).book replica.new.numbers) }
+    ensures { Steady (state_of (S.store replica.old.store) (B.book replica.old.book) replica.old.numbers) → BlockTaken (state_of (S.store replica.old.store) (B.book replica.old.book) replica.old.numbers) bytes.now result (state_of (S.store replica.new.store) (B.book replica.new.book) replica.new.numbers) }
 {
     match replica.check(bytes) {
         Ok(block) => match block.commit(replica) {
@@ -53,7 +53,7 @@ fn take_blocks<S: AccountStore, B: OfferBook>(
     bytes: &[u8],
     lines: &mut Vec<Line>,
 ) -> Result<(), AllocError>
-    ensures { Sound (state_of (S.AccountStore.ledger replica.old.store).store (B.OfferBook.orders replica.old.book).book replica.old.numbers) → OnOk result (BlocksTaken (state_of (S.AccountStore.ledger replica.old.store).store (B.OfferBook.orders replica.old.book).book replica.old.numbers) bytes.now lines.old.items lines.new.items (state_of (S.AccountStore.ledger replica.new.store).store (B.OfferBook.orders replica.new.book).book replica.new.numbers)) }
+    ensures { Sound (state_of (S.store replica.old.store) (B.book replica.old.book) replica.old.numbers) → OnOk result (BlocksTaken (state_of (S.store replica.old.store) (B.book replica.old.book) replica.old.numbers) bytes.now lines.old.items lines.new.items (state_of (S.store replica.new.store) (B.book replica.new.book) replica.new.numbers)) }
 {
     let mut rest = bytes;
     while rest.len() > 0 {
@@ -80,7 +80,7 @@ fn run<S: AccountStore, B: OfferBook>(
     replica: &mut Replica<S, B>,
     bytes: &[u8],
 ) -> Result<Vec<Line>, AllocError>
-    ensures { IfOk result (λ v. Listed (state_of (S.AccountStore.ledger replica.old.store).store (B.OfferBook.orders replica.old.book).book replica.old.numbers) bytes.now v.items (state_of (S.AccountStore.ledger replica.new.store).store (B.OfferBook.orders replica.new.book).book replica.new.numbers)) }
+    ensures { IfOk result (λ v. Listed (state_of (S.store replica.old.store) (B.book replica.old.book) replica.old.numbers) bytes.now v.items (state_of (S.store replica.new.store) (B.book replica.new.book) replica.new.numbers)) }
 {
     let mut lines = Vec::new(heap);
     match open(replica, bytes) {
@@ -104,7 +104,7 @@ pub fn list_stream<S: AccountStore + Drop, B: OfferBook + Drop>(
     book: B,
     bytes: &[u8],
 ) -> Result<Listing, AllocError>
-    ensures { IfOk result (λ x. Outcome (S.AccountStore.ledger store).store (B.OfferBook.orders book).book bytes.now x.lines.items x.counts) }
+    ensures { IfOk result (λ x. Outcome (S.store store) (B.book book) bytes.now x.lines.items x.counts) }
 {
     let mut replica = Replica::new(store, book);
     let lines = run(heap, &mut replica, bytes)?;

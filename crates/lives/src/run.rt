@@ -23,7 +23,7 @@ use terms::Key;
 
 // A founding.
 fn found_on<S: AccountStore, B: OfferBook>(replica: &mut Replica<S, B>, bytes: &[u8]) -> Answer
-    ensures { (hs : List (Option (List ℕ))) → StepOr (state_of (S.AccountStore.ledger replica.old.store).store (B.OfferBook.orders replica.old.book).book replica.old.numbers) hs (found bytes.now) (state_of (S.AccountStore.ledger replica.new.store).store (B.OfferBook.orders replica.new.book).book replica.new.numbers) hs (Ok result) }
+    ensures { (hs : List (Option (List ℕ))) → StepOr (state_of (S.store replica.old.store) (B.book replica.old.book) replica.old.numbers) hs (found bytes.now) (state_of (S.store replica.new.store) (B.book replica.new.book) replica.new.numbers) hs (Ok result) }
 {
     match replica.found(bytes) {
         Ok(()) => Answer::Done,
@@ -37,7 +37,7 @@ fn check_on<'a, S: AccountStore, B: OfferBook>(
     held: &mut Vec<Slot<'a>>,
     bytes: &'a [u8],
 ) -> Result<Answer, Stop>
-    ensures { StepOr (state_of (S.AccountStore.ledger replica.old.store).store (B.OfferBook.orders replica.old.book).book replica.old.numbers) (held_of held.old.items) (check bytes.now) (state_of (S.AccountStore.ledger replica.new.store).store (B.OfferBook.orders replica.new.book).book replica.new.numbers) (held_of held.new.items) result }
+    ensures { StepOr (state_of (S.store replica.old.store) (B.book replica.old.book) replica.old.numbers) (held_of held.old.items) (check bytes.now) (state_of (S.store replica.new.store) (B.book replica.new.book) replica.new.numbers) (held_of held.new.items) result }
 {
     let number = held.len();
     match replica.check(bytes) {
@@ -96,7 +96,7 @@ fn commit_at<'a, S: AccountStore, B: OfferBook>(
     held: &mut Vec<Slot<'a>>,
     block: usize,
 ) -> Result<Answer, Stop>
-    ensures { StepOr (state_of (S.AccountStore.ledger replica.old.store).store (B.OfferBook.orders replica.old.book).book replica.old.numbers) (held_of held.old.items) (commit block) (state_of (S.AccountStore.ledger replica.new.store).store (B.OfferBook.orders replica.new.book).book replica.new.numbers) (held_of held.new.items) result }
+    ensures { StepOr (state_of (S.store replica.old.store) (B.book replica.old.book) replica.old.numbers) (held_of held.old.items) (commit block) (state_of (S.store replica.new.store) (B.book replica.new.book) replica.new.numbers) (held_of held.new.items) result }
 {
     match take(held, block)?.commit(replica) {
         Ok(()) => Ok(Answer::Done),
@@ -110,7 +110,7 @@ fn reject_at<'a, S: AccountStore, B: OfferBook>(
     held: &mut Vec<Slot<'a>>,
     block: usize,
 ) -> Result<Answer, Stop>
-    ensures { StepOr (state_of (S.AccountStore.ledger replica.old.store).store (B.OfferBook.orders replica.old.book).book replica.old.numbers) (held_of held.old.items) (reject block) (state_of (S.AccountStore.ledger replica.new.store).store (B.OfferBook.orders replica.new.book).book replica.new.numbers) (held_of held.new.items) result }
+    ensures { StepOr (state_of (S.store replica.old.store) (B.book replica.old.book) replica.old.numbers) (held_of held.old.items) (reject block) (state_of (S.store replica.new.store) (B.book replica.new.book) replica.new.numbers) (held_of held.new.items) result }
 {
     take(held, block)?.reject(replica);
     Ok(Answer::Done)
@@ -123,7 +123,7 @@ fn fill_at<'a, S: AccountStore, B: OfferBook>(
     block: usize,
     key: Key,
 ) -> Result<Answer, Stop>
-    ensures { StepOr (state_of (S.AccountStore.ledger replica.now.store).store (B.OfferBook.orders replica.now.book).book replica.now.numbers) (held_of held.now.items) (fill block key) (state_of (S.AccountStore.ledger replica.now.store).store (B.OfferBook.orders replica.now.book).book replica.now.numbers) (held_of held.now.items) result }
+    ensures { StepOr (state_of (S.store replica.now.store) (B.book replica.now.book) replica.now.numbers) (held_of held.now.items) (fill block key) (state_of (S.store replica.now.store) (B.book replica.now.book) replica.now.numbers) (held_of held.now.items) result }
 {
     if block >= held.len() {
         return Err(Stop::NotHeld);
@@ -143,7 +143,7 @@ fn step<'a, S: AccountStore, B: OfferBook>(
     held: &mut Vec<Slot<'a>>,
     event: Event<'a>,
 ) -> Result<Answer, Stop>
-    ensures { StepOr (state_of (S.AccountStore.ledger replica.old.store).store (B.OfferBook.orders replica.old.book).book replica.old.numbers) (held_of held.old.items) (event_of event.entry) (state_of (S.AccountStore.ledger replica.new.store).store (B.OfferBook.orders replica.new.book).book replica.new.numbers) (held_of held.new.items) result }
+    ensures { StepOr (state_of (S.store replica.old.store) (B.book replica.old.book) replica.old.numbers) (held_of held.old.items) (event_of event.entry) (state_of (S.store replica.new.store) (B.book replica.new.book) replica.new.numbers) (held_of held.new.items) result }
 {
     match event {
         Event::Found(bytes) => Ok(found_on(replica, bytes)),
@@ -163,7 +163,7 @@ fn go_on<'a, S: AccountStore, B: OfferBook>(
     answers: &mut Vec<Answer>,
 ) -> Stop
     ensures { (st : Store) (bk : Book) → sound_store st ≡ true → sound_book bk ≡ true
-        → state_of (S.AccountStore.ledger replica.old.store).store (B.OfferBook.orders replica.old.book).book replica.old.numbers ≡ newborn st bk
+        → state_of (S.store replica.old.store) (B.book replica.old.book) replica.old.numbers ≡ newborn st bk
         → held.old.items ≡ [] → answers.old.items ≡ []
         → Over st bk (map event_of events.now) (map answer_of answers.new.items) result }
 {
@@ -204,7 +204,7 @@ pub fn live<'a, S: AccountStore + Drop, B: OfferBook + Drop>(
     book: B,
     events: &[Event<'a>],
 ) -> Record
-    ensures { Ran (S.AccountStore.ledger store).store (B.OfferBook.orders book).book (map event_of events.now) (map answer_of result.answers.items) result.stop }
+    ensures { Ran (S.store store) (B.book book) (map event_of events.now) (map answer_of result.answers.items) result.stop }
 {
     let mut replica = Replica::new(store, book);
     let mut held = Vec::new(heap);
@@ -231,7 +231,7 @@ pub fn live_twice<
     events: &[Event<'a>],
     others: &[Event<'a>],
 ) -> Pair
-    ensures { Law (S1.AccountStore.ledger first_store).store (B1.OfferBook.orders first_book).book (S2.AccountStore.ledger second_store).store (B2.OfferBook.orders second_book).book (map event_of events.now) (map event_of others.now) (map answer_of result.first.answers.items) (map answer_of result.second.answers.items) result.first.stop result.second.stop }
+    ensures { Law (S1.store first_store) (B1.book first_book) (S2.store second_store) (B2.book second_book) (map event_of events.now) (map event_of others.now) (map answer_of result.first.answers.items) (map answer_of result.second.answers.items) result.first.stop result.second.stop }
 {
     let first = live(heap, first_store, first_book, events);
     let second = live(heap, second_store, second_book, others);

@@ -7,10 +7,9 @@ ghost use Rattle.std.specs.Prelude.{◌≡◌, ℕ, ◌+◌, ◌-◌, ◌<◌, �
 ghost use Rattle.terms.specs.Holdings.{sound_book};
 ghost use Rattle.ordered_book.specs.Rows.{book_of, Found};
 
-use accounts::refusal;
 use offers::{OfferBook, in_range};
 use ordered::{Amounts, Table};
-use terms::{Fault, Key, Offer};
+use terms::{Cause, Fault, Key, Offer};
 
 // As many offers as a book may have.
 const MOST: usize = 65_536;
@@ -70,7 +69,9 @@ impl<'a> OrderedBook<'a> {
 }
 
 impl<'a> OfferBook for OrderedBook<'a> {
-    ghost orders = { λ s. record { book = book_of s.table.len s.table.slots.now; sound = s.sound } };
+    ghost book = { λ s. book_of s.table.len s.table.slots.now };
+
+    ghost sound = { λ s. s.sound };
 
     fn amount(&self, key: Key) -> u64 {
         match self.find(key) {
@@ -106,13 +107,13 @@ impl<'a> OfferBook for OrderedBook<'a> {
 
     fn place(&mut self, key: Key, units: u64) -> Result<(), Fault> {
         match self.table.search(key) {
-            Ok(_) => Err(refusal(28)),
+            Ok(_) => Err(Cause::StandsAlready.into()),
             Err(i) => {
                 if self.table.len() >= self.table.capacity() {
-                    return Err(refusal(29));
+                    return Err(Cause::NoRoom.into());
                 }
                 if !in_range(key, units) {
-                    return Err(refusal(31));
+                    return Err(Cause::BadOperand.into());
                 }
                 self.table.insert(i, Offer { key, amount: units });
                 Ok(())
@@ -124,7 +125,7 @@ impl<'a> OfferBook for OrderedBook<'a> {
         match self.find(key) {
             Some((i, o)) => {
                 if units > o.amount {
-                    return Err(refusal(31));
+                    return Err(Cause::BadOperand.into());
                 }
                 if units == 0 {
                     self.table.remove(i);
@@ -133,7 +134,7 @@ impl<'a> OfferBook for OrderedBook<'a> {
                 self.table.set(i, Offer { key, amount: units });
                 Ok(())
             }
-            None => Err(refusal(30)),
+            None => Err(Cause::Absent.into()),
         }
     }
 }

@@ -37,7 +37,7 @@ fn over_store<S: AccountStore + Drop>(
     offers: usize,
     bytes: &[u8],
 ) -> Result<Listing, AllocError>
-    ensures { IfOk result (λ x. Outcome (S.AccountStore.ledger store).store (record { capacity = min offers 65536; offers = [] }) bytes.now x.lines.items x.counts) }
+    ensures { IfOk result (λ x. Outcome (S.store store) (record { capacity = min offers 65536; offers = [] }) bytes.now x.lines.items x.counts) }
 {
     match book {
         BookMake::Trie => {

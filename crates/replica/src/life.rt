@@ -10,7 +10,7 @@ ghost use Rattle.replica.specs.Meaning.{state_of, Steady};
 ghost use Rattle.replica.specs.Calls.{says, plainly, FoundCall, CheckCall, FillCall, CommitCall};
 
 use crate::numbers::Numbers;
-use accounts::{AccountStore, refusal};
+use accounts::AccountStore;
 use blocks::{DecodedBlock, read_block, read_founding};
 use clearing::clear;
 use fills::filled;
@@ -18,7 +18,7 @@ use founding::{grant_all, judge_founding};
 use judging::judge;
 use offers::OfferBook;
 use state_digest::state_digest;
-use terms::{Fault, Key};
+use terms::{Cause, Fault, Key};
 
 // A replica holds its store and its book, of whichever make.
 #[derive(Drop)]
@@ -31,7 +31,7 @@ pub struct Replica<S: AccountStore, B: OfferBook> {
 impl<S: AccountStore, B: OfferBook> Replica<S, B> {
     // A replica that is not founded yet: its numbers and its digest are zeros.
     pub fn new(store: S, book: B) -> Self
-        ensures { state_of (S.AccountStore.ledger result.store).store (B.OfferBook.orders result.book).book result.numbers ≡ newborn (S.AccountStore.ledger store).store (B.OfferBook.orders book).book }
+        ensures { state_of (S.store result.store) (B.book result.book) result.numbers ≡ newborn (S.store store) (B.book book) }
     {
         Replica {
             store,
@@ -52,13 +52,13 @@ impl<S: AccountStore, B: OfferBook> Replica<S, B> {
     // Opens the accounts of a founding, with their balances. Refuses with 25, founded already; then 22, store or book not
     // empty; then what the bytes have (1 to 7), and the least of 15, 19 and 23. A refusal changes nothing.
     pub fn found(&mut self, bytes: &[u8]) -> Result<(), Fault>
-        ensures { FoundCall (state_of (S.AccountStore.ledger self.old.store).store (B.OfferBook.orders self.old.book).book self.old.numbers) bytes.now result (state_of (S.AccountStore.ledger self.new.store).store (B.OfferBook.orders self.new.book).book self.new.numbers) }
+        ensures { FoundCall (state_of (S.store self.old.store) (B.book self.old.book) self.old.numbers) bytes.now result (state_of (S.store self.new.store) (B.book self.new.book) self.new.numbers) }
     {
         if self.numbers.founded {
-            return Err(refusal(25));
+            return Err(Cause::FoundedAlready.into());
         }
         if self.store.count() != 0 || self.book.count() != 0 {
-            return Err(refusal(22));
+            return Err(Cause::NotEmpty.into());
         }
         let founding = read_founding(bytes)?;
         judge_founding(&self.store, &founding)?;
@@ -79,10 +79,10 @@ impl<S: AccountStore, B: OfferBook> Replica<S, B> {
 
     // What the bytes say, where they are a readable block that has no fault now. Refuses with 24, not founded; then 1 to 21.
     fn rule(&self, bytes: &[u8]) -> Result<DecodedBlock, Fault>
-        ensures { Rules (state_of (S.AccountStore.ledger self.now.store).store (B.OfferBook.orders self.now.book).book self.now.numbers) bytes.now (says result) }
+        ensures { Rules (state_of (S.store self.now.store) (B.book self.now.book) self.now.numbers) bytes.now (says result) }
     {
         if !self.numbers.founded {
-            return Err(refusal(24));
+            return Err(Cause::NotFounded.into());
         }
         let block = read_block(bytes)?;
         judge(
@@ -99,13 +99,13 @@ impl<S: AccountStore, B: OfferBook> Replica<S, B> {
     // 26, no more checks can be counted; then what the bytes have (1 to 7), and the least of 8 to 21.
     pub fn check<'a>(&mut self, bytes: &'a [u8]) -> Result<CheckedBlock<'a>, Fault>
         ensures holds { IfOk result (λ c. c.bytes.now ≡ bytes.now) }
-        ensures call { CheckCall (state_of (S.AccountStore.ledger self.old.store).store (B.OfferBook.orders self.old.book).book self.old.numbers) bytes.now (plainly result) (state_of (S.AccountStore.ledger self.new.store).store (B.OfferBook.orders self.new.book).book self.new.numbers) }
+        ensures call { CheckCall (state_of (S.store self.old.store) (B.book self.old.book) self.old.numbers) bytes.now (plainly result) (state_of (S.store self.new.store) (B.book self.new.book) self.new.numbers) }
     {
         if !self.numbers.founded {
-            return Err(refusal(24));
+            return Err(Cause::NotFounded.into());
         }
         if self.numbers.passed == u32::MAX {
-            return Err(refusal(26));
+            return Err(Cause::ChecksUsedUp.into());
         }
         let _ = self.rule(bytes)?;
         self.numbers.passed += 1;
@@ -114,7 +114,7 @@ impl<S: AccountStore, B: OfferBook> Replica<S, B> {
 
     // Applies a block that has no fault.
     fn apply(&mut self, block: &DecodedBlock) -> Result<(), Fault>
-        ensures { Sound (state_of (S.AccountStore.ledger self.old.store).store (B.OfferBook.orders self.old.book).book self.old.numbers) → Verdict (state_of (S.AccountStore.ledger self.old.store).store (B.OfferBook.orders self.old.book).book self.old.numbers) (block_of block.now) None → (result ≡ Ok tt) × Committed (state_of (S.AccountStore.ledger self.old.store).store (B.OfferBook.orders self.old.book).book self.old.numbers) (block_of block.now) (state_of (S.AccountStore.ledger self.new.store).store (B.OfferBook.orders self.new.book).book self.new.numbers) }
+        ensures { Sound (state_of (S.store self.old.store) (B.book self.old.book) self.old.numbers) → Verdict (state_of (S.store self.old.store) (B.book self.old.book) self.old.numbers) (block_of block.now) None → (result ≡ Ok tt) × Committed (state_of (S.store self.old.store) (B.book self.old.book) self.old.numbers) (block_of block.now) (state_of (S.store self.new.store) (B.book self.new.book) self.new.numbers) }
     {
         let mut remainders = self.numbers.remainders;
         clear(&mut self.store, &mut self.book, &mut remainders, block)?;
@@ -149,7 +149,7 @@ impl<'a> CheckedBlock<'a> {
         replica: &Replica<S, B>,
         key: Key,
     ) -> Result<(u64, u64), Fault>
-        ensures { Steady (state_of (S.AccountStore.ledger replica.now.store).store (B.OfferBook.orders replica.now.book).book replica.now.numbers) → FillCall (state_of (S.AccountStore.ledger replica.now.store).store (B.OfferBook.orders replica.now.book).book replica.now.numbers) self.now.bytes.now key result }
+        ensures { Steady (state_of (S.store replica.now.store) (B.book replica.now.book) replica.now.numbers) → FillCall (state_of (S.store replica.now.store) (B.book replica.now.book) replica.now.numbers) self.now.bytes.now key result }
     {
         let block = replica.rule(self.bytes)?;
         let (sold, paid) = filled(&replica.book, &block, key);
@@ -162,7 +162,7 @@ impl<'a> CheckedBlock<'a> {
         self,
         replica: &mut Replica<S, B>,
     ) -> Result<(), Fault>
-        ensures { Steady (state_of (S.AccountStore.ledger replica.old.store).store (B.OfferBook.orders replica.old.book).book replica.old.numbers) → CommitCall (state_of (S.AccountStore.ledger replica.old.store).store (B.OfferBook.orders replica.old.book).book replica.old.numbers) self.entry.bytes.now result (state_of (S.AccountStore.ledger replica.new.store).store (B.OfferBook.orders replica.new.book).book replica.new.numbers) }
+        ensures { Steady (state_of (S.store replica.old.store) (B.book replica.old.book) replica.old.numbers) → CommitCall (state_of (S.store replica.old.store) (B.book replica.old.book) replica.old.numbers) self.entry.bytes.now result (state_of (S.store replica.new.store) (B.book replica.new.book) replica.new.numbers) }
     {
         let CheckedBlock { bytes } = self;
         match replica.rule(bytes) {
@@ -176,7 +176,7 @@ impl<'a> CheckedBlock<'a> {
 
     // Rejects the block: raises `rejected`, and changes nothing else. Refuses nothing.
     pub fn reject<S: AccountStore, B: OfferBook>(self, replica: &mut Replica<S, B>)
-        ensures { state_of (S.AccountStore.ledger replica.new.store).store (B.OfferBook.orders replica.new.book).book replica.new.numbers ≡ after_reject (state_of (S.AccountStore.ledger replica.old.store).store (B.OfferBook.orders replica.old.book).book replica.old.numbers) }
+        ensures { state_of (S.store replica.new.store) (B.book replica.new.book) replica.new.numbers ≡ after_reject (state_of (S.store replica.old.store) (B.book replica.old.book) replica.old.numbers) }
     {
         let CheckedBlock { bytes: _ } = self;
         replica.numbers.rejected = replica.numbers.rejected.saturating_add(1);

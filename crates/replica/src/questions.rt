@@ -25,147 +25,147 @@ fn at(amounts: &[u64; 8], asset: u8) -> u64
 impl<S: AccountStore, B: OfferBook> Replica<S, B> {
     // How many blocks have been committed since the founding.
     pub fn height(&self) -> u32
-        ensures { result ≡ (state_of (S.AccountStore.ledger self.now.store).store (B.OfferBook.orders self.now.book).book self.now.numbers).own.height }
+        ensures { result ≡ (state_of (S.store self.now.store) (B.book self.now.book) self.now.numbers).own.height }
     {
         self.numbers.height
     }
 
     // The digest of the state: zeros before the founding.
     pub fn digest(&self) -> [u8; 32]
-        ensures { result ≡ (state_of (S.AccountStore.ledger self.now.store).store (B.OfferBook.orders self.now.book).book self.now.numbers).own.digest }
+        ensures { result ≡ (state_of (S.store self.now.store) (B.book self.now.book) self.now.numbers).own.digest }
     {
         self.numbers.digest
     }
 
     // What rounding has left over of an asset: 0 for an asset above 7.
     pub fn remainder(&self, asset: u8) -> u64
-        ensures { result ≡ remainder (state_of (S.AccountStore.ledger self.now.store).store (B.OfferBook.orders self.now.book).book self.now.numbers) asset }
+        ensures { result ≡ remainder (state_of (S.store self.now.store) (B.book self.now.book) self.now.numbers) asset }
     {
         at(&self.numbers.remainders, asset)
     }
 
     // How many checks were passed.
     pub fn passed(&self) -> u32
-        ensures { result ≡ (state_of (S.AccountStore.ledger self.now.store).store (B.OfferBook.orders self.now.book).book self.now.numbers).counts.passed }
+        ensures { result ≡ (state_of (S.store self.now.store) (B.book self.now.book) self.now.numbers).counts.passed }
     {
         self.numbers.passed
     }
 
     // How many blocks were committed.
     pub fn committed(&self) -> u32
-        ensures { result ≡ (state_of (S.AccountStore.ledger self.now.store).store (B.OfferBook.orders self.now.book).book self.now.numbers).counts.committed }
+        ensures { result ≡ (state_of (S.store self.now.store) (B.book self.now.book) self.now.numbers).counts.committed }
     {
         self.numbers.committed
     }
 
     // How many commits were refused; it stops at 4,294,967,295.
     pub fn lapsed(&self) -> u32
-        ensures { result ≡ (state_of (S.AccountStore.ledger self.now.store).store (B.OfferBook.orders self.now.book).book self.now.numbers).counts.lapsed }
+        ensures { result ≡ (state_of (S.store self.now.store) (B.book self.now.book) self.now.numbers).counts.lapsed }
     {
         self.numbers.lapsed
     }
 
     // How many blocks were rejected; it stops at 4,294,967,295.
     pub fn rejected(&self) -> u32
-        ensures { result ≡ (state_of (S.AccountStore.ledger self.now.store).store (B.OfferBook.orders self.now.book).book self.now.numbers).counts.rejected }
+        ensures { result ≡ (state_of (S.store self.now.store) (B.book self.now.book) self.now.numbers).counts.rejected }
     {
         self.numbers.rejected
     }
 
     // Whether an account stands.
     pub fn stands(&self, number: u32) -> bool
-        ensures { (if result then 1 else 0) ≡ standing (S.AccountStore.ledger self.now.store).store number }
+        ensures { (if result then 1 else 0) ≡ standing (S.store self.now.store) number }
     {
         self.store.stands(number)
     }
 
     // A free balance: 0 for an absent account or an asset above 7.
     pub fn balance(&self, number: u32, asset: u8) -> u64
-        ensures { result ≡ balance_at (S.AccountStore.ledger self.now.store).store number asset }
+        ensures { result ≡ balance_at (S.store self.now.store) number asset }
     {
         self.store.balance(number, asset)
     }
 
     // The highest sequence number that an account has used: 0 for an absent account.
     pub fn floor(&self, number: u32) -> u32
-        ensures { result ≡ floor_at (S.AccountStore.ledger self.now.store).store number }
+        ensures { result ≡ floor_at (S.store self.now.store) number }
     {
         self.store.floor(number)
     }
 
     // How many accounts stand.
     pub fn accounts(&self) -> u32
-        ensures { result ≡ length (S.AccountStore.ledger self.now.store).store.accounts }
+        ensures { result ≡ length (S.store self.now.store).accounts }
     {
         self.store.count()
     }
 
     // How many accounts may stand.
     pub fn account_capacity(&self) -> u32
-        ensures { result ≡ (S.AccountStore.ledger self.now.store).store.capacity }
+        ensures { result ≡ (S.store self.now.store).capacity }
     {
         self.store.capacity()
     }
 
     // The highest number that an account may have.
     pub fn top(&self) -> u32
-        ensures { result ≡ (S.AccountStore.ledger self.now.store).store.top }
+        ensures { result ≡ (S.store self.now.store).top }
     {
         self.store.top()
     }
 
     // The sum of all free balances of an asset.
     pub fn free(&self, asset: u8) -> u64
-        ensures { result ≡ free_of (S.AccountStore.ledger self.now.store).store asset }
+        ensures { result ≡ free_of (S.store self.now.store) asset }
     {
         self.store.total(asset)
     }
 
     // The lowest standing account above a number.
     pub fn next_account(&self, number: u32) -> Option<u32>
-        ensures { told (λ n. n ∷ []) result ≡ above name (S.AccountStore.ledger self.now.store).store.accounts (number ∷ []) }
+        ensures { told (λ n. n ∷ []) result ≡ above name (S.store self.now.store).accounts (number ∷ []) }
     {
         self.store.next(number)
     }
 
     // The amount that a key sells: 0 where it does not stand.
     pub fn amount(&self, key: Key) -> u64
-        ensures { result ≡ amount_at (B.OfferBook.orders self.now.book).book.offers key }
+        ensures { result ≡ amount_at (B.book self.now.book).offers key }
     {
         self.book.amount(key)
     }
 
     // How many offers stand.
     pub fn offers(&self) -> u32
-        ensures { result ≡ length (B.OfferBook.orders self.now.book).book.offers }
+        ensures { result ≡ length (B.book self.now.book).offers }
     {
         self.book.count()
     }
 
     // How many offers may stand.
     pub fn offer_capacity(&self) -> u32
-        ensures { result ≡ (B.OfferBook.orders self.now.book).book.capacity }
+        ensures { result ≡ (B.book self.now.book).capacity }
     {
         self.book.capacity()
     }
 
     // The sum offered of a sold asset.
     pub fn offered(&self, sold: u8) -> u64
-        ensures { result ≡ offered_of (B.OfferBook.orders self.now.book).book sold }
+        ensures { result ≡ offered_of (B.book self.now.book) sold }
     {
         self.book.offered(sold)
     }
 
     // The lowest standing key above a key.
     pub fn next_offer(&self, key: Key) -> Option<Key>
-        ensures { told words result ≡ above place (B.OfferBook.orders self.now.book).book.offers (words key) }
+        ensures { told words result ≡ above place (B.book self.now.book).offers (words key) }
     {
         self.book.next(key)
     }
 
     // The sum of a pair's amounts whose limit is at most the given one.
     pub fn up_to(&self, sold: u8, bought: u8, limit: u32) -> u64
-        ensures { result ≡ up_to (B.OfferBook.orders self.now.book).book sold bought limit }
+        ensures { result ≡ up_to (B.book self.now.book) sold bought limit }
     {
         self.book.up_to(sold, bought, limit)
     }

@@ -6,7 +6,7 @@ ghost use Rattle.std.specs.Prelude.{◌≡◌, ◌<◌, ◌≤◌, length, Match
 ghost use Rattle.sha256.specs.Digest.{sha256};
 ghost use Rattle.sha256.specs.Hex.{hex_digit, hex_of};
 
-use terms::Fault;
+use terms::{Cause, Fault};
 
 mod compress;
 mod hasher;
@@ -23,11 +23,7 @@ pub fn digest(bytes: &[u8]) -> Result<[u8; 32], Fault>
         (λ f. (40000 < length bytes.now) × (f ≡ record { number = 1; first = 0; second = 0 })) }
 {
     if bytes.len() > LONGEST {
-        return Err(Fault {
-            number: 1,
-            first: 0,
-            second: 0,
-        });
+        return Err(Cause::TooManyBytes.into());
     }
     let mut hasher = Hasher::new();
     hasher.update(bytes);

@@ -7,9 +7,9 @@ ghost use Rattle.std.specs.Prelude.{◌≡◌, ℕ, ◌+◌, ◌-◌, ◌<◌, �
 ghost use Rattle.terms.specs.Holdings.{sound_store};
 ghost use Rattle.sorted_store.specs.Rows.{store_of, Found};
 
-use accounts::{AccountStore, MAX_ACCOUNTS, new_account, refusal};
+use accounts::{AccountStore, MAX_ACCOUNTS, new_account};
 use ordered::{Amounts, Table};
-use terms::{Account, Fault, MAX_BALANCE};
+use terms::{Account, Cause, Fault, MAX_BALANCE};
 
 #[derive(Drop)]
 pub struct SortedStore<'a> {
@@ -48,7 +48,9 @@ impl<'a> SortedStore<'a> {
 }
 
 impl<'a> AccountStore for SortedStore<'a> {
-    ghost ledger = { λ s. record { store = store_of s.table.len s.top s.table.slots.now; sound = s.sound } };
+    ghost store = { λ s. store_of s.table.len s.top s.table.slots.now };
+
+    ghost sound = { λ s. s.sound };
 
     fn stands(&self, number: u32) -> bool {
         match self.find(number) {
@@ -93,13 +95,13 @@ impl<'a> AccountStore for SortedStore<'a> {
 
     fn open(&mut self, number: u32) -> Result<(), Fault> {
         if number == 0 || number > self.top {
-            return Err(refusal(27));
+            return Err(Cause::NoSuchAccount.into());
         }
         match self.table.search(number) {
-            Ok(_) => Err(refusal(28)),
+            Ok(_) => Err(Cause::StandsAlready.into()),
             Err(i) => {
                 if self.table.len() >= self.table.capacity() {
-                    Err(refusal(29))
+                    Err(Cause::NoRoom.into())
                 } else {
                     self.table.insert(i, new_account(number));
                     Ok(())
@@ -112,13 +114,13 @@ impl<'a> AccountStore for SortedStore<'a> {
         match self.find(number) {
             Some((i, mut a)) => {
                 if asset >= 8 || value > MAX_BALANCE {
-                    return Err(refusal(31));
+                    return Err(Cause::BadOperand.into());
                 }
                 a.balances[asset as usize] = value;
                 self.table.set(i, a);
                 Ok(())
             }
-            None => Err(refusal(30)),
+            None => Err(Cause::Absent.into()),
         }
     }
 
@@ -129,7 +131,7 @@ impl<'a> AccountStore for SortedStore<'a> {
                 self.table.set(i, a);
                 Ok(())
             }
-            None => Err(refusal(30)),
+            None => Err(Cause::Absent.into()),
         }
     }
 }

@@ -26,7 +26,7 @@ pub fn state_digest<S: AccountStore, B: OfferBook>(
     height: u32,
     remainders: &[u64; 8],
 ) -> [u8; 32]
-    ensures { (s : State) → s.store ≡ (S.AccountStore.ledger store.now).store → s.book ≡ (B.OfferBook.orders book.now).book → s.own.height ≡ height → s.own.remainders ≡ remainders.now → result ≡ digest_of s }
+    ensures { (s : State) → s.store ≡ (S.store store.now) → s.book ≡ (B.book book.now) → s.own.height ≡ height → s.own.remainders ≡ remainders.now → result ≡ digest_of s }
 {
     let mut hasher = Hasher::new();
     hasher.update(&[STATE]);
@@ -50,7 +50,7 @@ fn add_amounts(hasher: &mut Hasher, amounts: &[u64; 8])
 
 // Takes all accounts, by rising number.
 fn add_accounts<S: AccountStore>(hasher: &mut Hasher, store: &S)
-    ensures { (m : List ℕ) → Holds hasher.old m → Holds hasher.new (m ++ flat_map account_bytes (S.AccountStore.ledger store.now).store.accounts) }
+    ensures { (m : List ℕ) → Holds hasher.old m → Holds hasher.new (m ++ flat_map account_bytes (S.store store.now).accounts) }
 {
     let mut at = 0;
     while let Some(number) = store.next(at) {
@@ -61,7 +61,7 @@ fn add_accounts<S: AccountStore>(hasher: &mut Hasher, store: &S)
 
 // Takes one account that stands.
 fn add_account<S: AccountStore>(hasher: &mut Hasher, store: &S, number: u32)
-    ensures { (m : List ℕ) (a : Account) → Has (S.AccountStore.ledger store.now).store.accounts a → a.number ≡ number → Holds hasher.old m → Holds hasher.new (m ++ account_bytes a) }
+    ensures { (m : List ℕ) (a : Account) → Has (S.store store.now).accounts a → a.number ≡ number → Holds hasher.old m → Holds hasher.new (m ++ account_bytes a) }
 {
     hasher.update(&number.to_be_bytes());
     hasher.update(&store.floor(number).to_be_bytes());
@@ -70,7 +70,7 @@ fn add_account<S: AccountStore>(hasher: &mut Hasher, store: &S, number: u32)
 
 // The eight balances of an account that stands.
 fn balances<S: AccountStore>(store: &S, number: u32) -> [u64; 8]
-    ensures { (a : Account) → Has (S.AccountStore.ledger store.now).store.accounts a → a.number ≡ number → result ≡ a.balances }
+    ensures { (a : Account) → Has (S.store store.now).accounts a → a.number ≡ number → result ≡ a.balances }
 {
     let mut balances = [0; 8];
     for asset in 0u8..8 {
@@ -81,7 +81,7 @@ fn balances<S: AccountStore>(store: &S, number: u32) -> [u64; 8]
 
 // Takes all offers, by rising key.
 fn add_offers<B: OfferBook>(hasher: &mut Hasher, book: &B)
-    ensures { (m : List ℕ) → Holds hasher.old m → Holds hasher.new (m ++ flat_map offer_bytes (B.OfferBook.orders book.now).book.offers) }
+    ensures { (m : List ℕ) → Holds hasher.old m → Holds hasher.new (m ++ flat_map offer_bytes (B.book book.now).offers) }
 {
     let mut at = Key {
         sold: 0,

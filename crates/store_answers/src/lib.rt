@@ -19,8 +19,8 @@ fn outcome(r: Result<(), Fault>) -> Answer
 }
 
 pub fn ask_accounts<S: AccountStore>(store: &mut S, ask: AccountAsk) -> Answer
-    ensures answer { result ≡ account_answer (S.AccountStore.ledger store.old).store ask }
-    ensures after { AccountsLeft (S.AccountStore.ledger store.old).store ask (S.AccountStore.ledger store.new).store }
+    ensures answer { result ≡ account_answer (S.store store.old) ask }
+    ensures after { AccountsLeft (S.store store.old) ask (S.store store.new) }
 {
     match ask {
         AccountAsk::Open { number } => outcome(store.open(number)),
@@ -46,8 +46,8 @@ pub fn ask_accounts<S: AccountStore>(store: &mut S, ask: AccountAsk) -> Answer
 }
 
 pub fn ask_offers<B: OfferBook>(book: &mut B, ask: OfferAsk) -> Answer
-    ensures answer { result ≡ offer_answer (B.OfferBook.orders book.old).book ask }
-    ensures after { OffersLeft (B.OfferBook.orders book.old).book ask (B.OfferBook.orders book.new).book }
+    ensures answer { result ≡ offer_answer (B.book book.old) ask }
+    ensures after { OffersLeft (B.book book.old) ask (B.book book.new) }
 {
     match ask {
         OfferAsk::Place { key, units } => outcome(book.place(key, units)),
@@ -83,11 +83,11 @@ pub fn compare_stores<S: AccountStore, T: AccountStore>(
     other: &mut T,
     ask: AccountAsk,
 ) -> Compared
-    ensures first { result.first ≡ account_answer (S.AccountStore.ledger one.old).store ask }
-    ensures second { result.second ≡ account_answer (T.AccountStore.ledger other.old).store ask }
-    ensures agree { (S.AccountStore.ledger one.old).store ≡ (T.AccountStore.ledger other.old).store → result.agree ≡ true }
-    ensures left { AccountsLeft (S.AccountStore.ledger one.old).store ask (S.AccountStore.ledger one.new).store }
-    ensures others { AccountsLeft (T.AccountStore.ledger other.old).store ask (T.AccountStore.ledger other.new).store }
+    ensures first { result.first ≡ account_answer (S.store one.old) ask }
+    ensures second { result.second ≡ account_answer (T.store other.old) ask }
+    ensures agree { (S.store one.old) ≡ (T.store other.old) → result.agree ≡ true }
+    ensures left { AccountsLeft (S.store one.old) ask (S.store one.new) }
+    ensures others { AccountsLeft (T.store other.old) ask (T.store other.new) }
 {
     let first = ask_accounts(one, ask);
     let second = ask_accounts(other, ask);
@@ -105,11 +105,11 @@ pub fn compare_books<B: OfferBook, C: OfferBook>(
     other: &mut C,
     ask: OfferAsk,
 ) -> Compared
-    ensures first { result.first ≡ offer_answer (B.OfferBook.orders one.old).book ask }
-    ensures second { result.second ≡ offer_answer (C.OfferBook.orders other.old).book ask }
-    ensures agree { (B.OfferBook.orders one.old).book ≡ (C.OfferBook.orders other.old).book → result.agree ≡ true }
-    ensures left { OffersLeft (B.OfferBook.orders one.old).book ask (B.OfferBook.orders one.new).book }
-    ensures others { OffersLeft (C.OfferBook.orders other.old).book ask (C.OfferBook.orders other.new).book }
+    ensures first { result.first ≡ offer_answer (B.book one.old) ask }
+    ensures second { result.second ≡ offer_answer (C.book other.old) ask }
+    ensures agree { (B.book one.old) ≡ (C.book other.old) → result.agree ≡ true }
+    ensures left { OffersLeft (B.book one.old) ask (B.book one.new) }
+    ensures others { OffersLeft (C.book other.old) ask (C.book other.new) }
 {
     let first = ask_offers(one, ask);
     let second = ask_offers(other, ask);

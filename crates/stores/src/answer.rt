@@ -28,8 +28,8 @@ fn outcome(r: Result<(), Fault>) -> Answer
 }
 
 pub fn ask_accounts<S: AccountStore>(store: &mut S, ask: AccountAsk) -> Answer
-    ensures answer { result ≡ account_answer (S.AccountStore.ledger store.old).store ask }
-    ensures after { AccountsLeft (S.AccountStore.ledger store.old).store ask (S.AccountStore.ledger store.new).store }
+    ensures answer { result ≡ account_answer (S.store store.old) ask }
+    ensures after { AccountsLeft (S.store store.old) ask (S.store store.new) }
 {
     match ask {
         AccountAsk::Open { number } => outcome(store.open(number)),
@@ -55,8 +55,8 @@ pub fn ask_accounts<S: AccountStore>(store: &mut S, ask: AccountAsk) -> Answer
 }
 
 pub fn ask_offers<B: OfferBook>(book: &mut B, ask: OfferAsk) -> Answer
-    ensures answer { result ≡ offer_answer (B.OfferBook.orders book.old).book ask }
-    ensures after { OffersLeft (B.OfferBook.orders book.old).book ask (B.OfferBook.orders book.new).book }
+    ensures answer { result ≡ offer_answer (B.book book.old) ask }
+    ensures after { OffersLeft (B.book book.old) ask (B.book book.new) }
 {
     match ask {
         OfferAsk::Place { key, units } => outcome(book.place(key, units)),

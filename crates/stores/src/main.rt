@@ -79,7 +79,7 @@ fn step<S: AccountStore, T: AccountStore, B: OfferBook, C: OfferBook>(
     ordered: &mut B,
     trie: &mut C,
 ) -> io::Result<bool>
-    ensures { (S.AccountStore.ledger sorted.old).store ≡ (T.AccountStore.ledger hashed.old).store → (B.OfferBook.orders ordered.old).book ≡ (C.OfferBook.orders trie.old).book → IfOk result (λ agree. agree ≡ true) }
+    ensures { (S.store sorted.old) ≡ (T.store hashed.old) → (B.book ordered.old) ≡ (C.book trie.old) → IfOk result (λ agree. agree ≡ true) }
 {
     match ask {
         Ask::Accounts(a) => {

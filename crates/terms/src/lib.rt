@@ -1,13 +1,18 @@
 // The plain records of the exchange, shared by code and definitions: accounts, offers, transactions, volumes,
-// founding grants and faults. Assumes nothing. The ranges of their numbers stand in specs/Ranges.antt.
+// founding grants, faults and their causes. Assumes nothing. The ranges of their numbers stand in specs/Ranges.antt.
 #![tactic(auto)]
 
+mod asked;
+mod causes;
 mod ranges;
+mod text;
 
+pub use causes::{Cause, UnknownCause, fault_at, refusal};
 pub use ranges::{MAX_BALANCE, are_balances};
+pub use text::Hex;
 
 // What is kept of an account: its number, the highest sequence number that it has used, and its eight free balances.
-#[derive(Clone, Copy, PartialEq, Eq, Debug)]
+#[derive(Clone, Copy, PartialEq, Eq, Debug, Default)]
 pub struct Account {
     pub number: u32,
     pub floor: u32,
@@ -16,7 +21,7 @@ pub struct Account {
 
 // The key of an offer. Keys are compared field by field, in this order; the first two are the offer's pair.
 // The limit counts 65,536ths of the bought asset that are wanted, at least, for each unit sold.
-#[derive(Clone, Copy, PartialEq, Eq, Debug)]
+#[derive(Clone, Copy, PartialEq, Eq, PartialOrd, Ord, Debug, Default)]
 pub struct Key {
     pub sold: u8,
     pub bought: u8,
@@ -26,14 +31,14 @@ pub struct Key {
 }
 
 // An offer: so many units of the key's sold asset.
-#[derive(Clone, Copy, PartialEq, Eq, Debug)]
+#[derive(Clone, Copy, PartialEq, Eq, Debug, Default)]
 pub struct Offer {
     pub key: Key,
     pub amount: u64,
 }
 
 // What a block sells of one pair: so many units of the sold asset, for the bought asset.
-#[derive(Clone, Copy, PartialEq, Eq, Debug)]
+#[derive(Clone, Copy, PartialEq, Eq, Debug, Default)]
 pub struct Volume {
     pub sold: u8,
     pub bought: u8,
@@ -69,8 +74,15 @@ pub enum Action {
     },
 }
 
+// Nothing in particular: memory for actions is filled with it.
+impl Default for Action {
+    fn default() -> Action {
+        Action::Create { account: 0 }
+    }
+}
+
 // A transaction: the account that it comes from, that account's sequence number, and what it asks for.
-#[derive(Clone, Copy, PartialEq, Eq, Debug)]
+#[derive(Clone, Copy, PartialEq, Eq, Debug, Default)]
 pub struct Transaction {
     pub source: u32,
     pub sequence: u32,
@@ -78,7 +90,7 @@ pub struct Transaction {
 }
 
 // What a founding gives to one account.
-#[derive(Clone, Copy, PartialEq, Eq, Debug)]
+#[derive(Clone, Copy, PartialEq, Eq, Debug, Default)]
 pub struct Grant {
     pub account: u32,
     pub balances: [u64; 8],

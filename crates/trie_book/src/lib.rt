@@ -7,11 +7,10 @@ ghost use Rattle.terms.specs.Holdings.{sound_book};
 ghost use Rattle.trie.specs.Trie.{held, under, offers, Next};
 ghost use Rattle.trie_book.specs.Codes.{book_of};
 
-use accounts::refusal;
 use codes::{code, key_of, start};
 use offers::{OfferBook, in_range};
 use std::alloc::{AllocError, Global};
-use terms::{Fault, Key};
+use terms::{Cause, Fault, Key};
 use trie::Trie;
 
 mod codes;
@@ -38,7 +37,9 @@ impl TrieBook {
 }
 
 impl OfferBook for TrieBook {
-    ghost orders = { λ s. record { book = book_of s.trie.capacity s.trie.root; sound = s.sound } };
+    ghost book = { λ s. book_of s.trie.capacity s.trie.root };
+
+    ghost sound = { λ s. s.sound };
 
     fn amount(&self, key: Key) -> u64 {
         if key.sold > 7 || key.bought > 7 {
@@ -102,13 +103,13 @@ impl OfferBook for TrieBook {
 
     fn place(&mut self, key: Key, units: u64) -> Result<(), Fault> {
         if self.amount(key) > 0 {
-            return Err(refusal(28));
+            return Err(Cause::StandsAlready.into());
         }
         if self.count() >= self.capacity() {
-            return Err(refusal(29));
+            return Err(Cause::NoRoom.into());
         }
         if !in_range(key, units) {
-            return Err(refusal(31));
+            return Err(Cause::BadOperand.into());
         }
         let c = code(key);
         self.trie.place(c, units);
@@ -118,10 +119,10 @@ impl OfferBook for TrieBook {
     fn reduce(&mut self, key: Key, units: u64) -> Result<(), Fault> {
         let old = self.amount(key);
         if old == 0 {
-            return Err(refusal(30));
+            return Err(Cause::Absent.into());
         }
         if units > old {
-            return Err(refusal(31));
+            return Err(Cause::BadOperand.into());
         }
         let c = code(key);
         self.trie.reduce(c, units);

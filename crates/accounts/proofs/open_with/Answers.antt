@@ -17,10 +17,10 @@ pub returns : goal.returns
 returns g c =
     let eight : length c.args.balances ≡ 8 = omega arith in
     let fit : every is_balance c.args.balances ≡ true = sym c.are_balances.ensures ∙ c.if-not-are_balances.false in
-    let s = (g.S.AccountStore.ledger c.args.store.now).store in
+    let s = (g.S.AccountStore.store c.args.store.now) in
     let last : c.loop-x.x ≡ 8 = omega arith in
     record {
       answer = c.in_ok-open.ensures.answer ∙ sym (cond-true (are_balances c.args.balances) _ _ (and_from _ _ (eq-eqb _ 8 eight) fit));
       after = granted _ _ _ c.args.number c.args.balances eight c.in_ok-open.ensures.answer c.in_ok-open.ensures.after
-          (subst (λ x. Filled (g.S.AccountStore.ledger c.open.new.self).store c.args.number c.args.balances x (g.S.AccountStore.ledger c.loop-x.store).store) last c.loop-x.invariant);
+          (subst (λ x. Filled (g.S.AccountStore.store c.open.new.self) c.args.number c.args.balances x (g.S.AccountStore.store c.loop-x.store)) last c.loop-x.invariant);
     }

@@ -3,4 +3,4 @@ use Rattle.accounts.proofs.open_with.Given as goal
 
 abbrev pub invariant-loop-x : goal.invariant-loop-x
 invariant-loop-x g l =
-    Filled (g.S.AccountStore.ledger l.initial.store).store l.number l.balances l.x (g.S.AccountStore.ledger l.store).store
+    Filled (g.S.AccountStore.store l.initial.store) l.number l.balances l.x (g.S.AccountStore.store l.store)

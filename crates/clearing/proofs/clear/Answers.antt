@@ -16,6 +16,6 @@ returns-in-Some g c = λ s p q r so clean.
     let b = block_of c.args.block.now in
     let e = over_is s _ _ _ p q r in
     let n = c.in-Some.ensures in
-    subst (λ z. ClearedOr z b (g.S.AccountStore.ledger c.clear_by.new.store).store (g.B.OfferBook.orders c.clear_by.new.book).book c.clear_by.new.remainders c.clear_by.result) (sym e)
+    subst (λ z. ClearedOr z b (g.S.AccountStore.store c.clear_by.new.store) (g.B.OfferBook.book c.clear_by.new.book) c.clear_by.new.remainders c.clear_by.result) (sym e)
     (c.clear_by.ensures s (subst Sound e so) (subst (λ z. Verdict z b None) e clean)
     (netted _ b _ _ c.transactions.ensures (front c.nets.new.nets c.in-Some.n n.2)))

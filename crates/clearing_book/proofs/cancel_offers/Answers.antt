@@ -29,5 +29,5 @@ returns-in_err-cancel g c =
 
 pub returns : goal.returns
 returns g c =
-    subst (λ l. Left (flat_map cancelled l) (g.B.OfferBook.orders c.args.book.now).book (g.B.OfferBook.orders c.loop-t.book).book)
+    subst (λ l. Left (flat_map cancelled l) (g.B.OfferBook.book c.args.book.now) (g.B.OfferBook.book c.loop-t.book))
     (take_all c.loop-t.t-index c.args.transactions.now c.loop-t-test.false) c.loop-t.invariant

@@ -6,4 +6,4 @@ use Rattle.clearing_book.proofs.cancel_offers.Given as goal
 
 abbrev pub invariant-loop-t : goal.invariant-loop-t
 invariant-loop-t g l =
-    Left (flat_map cancelled (take l.t-index l.transactions)) (g.B.OfferBook.orders l.initial.book).book (g.B.OfferBook.orders l.book).book
+    Left (flat_map cancelled (take l.t-index l.transactions)) (g.B.OfferBook.book l.initial.book) (g.B.OfferBook.book l.book)

@@ -6,4 +6,4 @@ use Rattle.clearing_book.proofs.place_offers.Given as goal
 
 abbrev pub invariant-loop-t : goal.invariant-loop-t
 invariant-loop-t g l =
-    Entered (flat_map placed (take l.t-index l.transactions)) (g.B.OfferBook.orders l.initial.book).book (g.B.OfferBook.orders l.book).book
+    Entered (flat_map placed (take l.t-index l.transactions)) (g.B.OfferBook.book l.initial.book) (g.B.OfferBook.book l.book)

@@ -27,5 +27,5 @@ returns-in_err-apply g c =
 
 pub returns : goal.returns
 returns g c =
-    subst (λ l. Applied l (g.S.AccountStore.ledger c.args.store.now).store (g.S.AccountStore.ledger c.loop-net.store).store)
+    subst (λ l. Applied l (g.S.AccountStore.store c.args.store.now) (g.S.AccountStore.store c.loop-net.store))
     (take_all c.loop-net.net-index c.args.nets.now c.loop-net-test.false) c.loop-net.invariant

@@ -4,4 +4,4 @@ use Rattle.clearing_store.proofs.apply_nets.Given as goal
 
 abbrev pub invariant-loop-net : goal.invariant-loop-net
 invariant-loop-net g l =
-    Applied (take l.net-index l.nets) (g.S.AccountStore.ledger l.initial.store).store (g.S.AccountStore.ledger l.store).store
+    Applied (take l.net-index l.nets) (g.S.AccountStore.store l.initial.store) (g.S.AccountStore.store l.store)

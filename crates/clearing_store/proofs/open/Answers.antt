@@ -6,5 +6,5 @@ use Rattle.clearing_store.proofs.open.Goals as goal
 
 pub returns-in-Create : goal.returns-in-Create
 returns-in-Create g c =
-    subst (λ a. OpenedOr (opens a) (g.S.AccountStore.ledger c.args.store.now).store (g.S.AccountStore.ledger c.open.new.self).store c.open.result) (sym c.in-Create.is)
+    subst (λ a. OpenedOr (opens a) (g.S.AccountStore.store c.args.store.now) (g.S.AccountStore.store c.open.new.self) c.open.result) (sym c.in-Create.is)
     (one_opened _ _ _ c.open.result c.open.ensures.answer c.open.ensures.after)

@@ -29,5 +29,5 @@ returns-in_err-open g c =
 
 pub returns : goal.returns
 returns g c =
-    subst (λ l. AllOpened (flat_map created l) (g.S.AccountStore.ledger c.args.store.now).store (g.S.AccountStore.ledger c.loop-t.store).store)
+    subst (λ l. AllOpened (flat_map created l) (g.S.AccountStore.store c.args.store.now) (g.S.AccountStore.store c.loop-t.store))
     (take_all c.loop-t.t-index c.args.transactions.now c.loop-t-test.false) c.loop-t.invariant

@@ -6,4 +6,4 @@ use Rattle.clearing_store.proofs.open_accounts.Given as goal
 
 abbrev pub invariant-loop-t : goal.invariant-loop-t
 invariant-loop-t g l =
-    AllOpened (flat_map created (take l.t-index l.transactions)) (g.S.AccountStore.ledger l.initial.store).store (g.S.AccountStore.ledger l.store).store
+    AllOpened (flat_map created (take l.t-index l.transactions)) (g.S.AccountStore.store l.initial.store) (g.S.AccountStore.store l.store)

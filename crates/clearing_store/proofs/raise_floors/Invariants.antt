@@ -4,4 +4,4 @@ use Rattle.clearing_store.proofs.raise_floors.Given as goal
 
 abbrev pub invariant-loop-t : goal.invariant-loop-t
 invariant-loop-t g l =
-    Raised (take l.t-index l.transactions) (g.S.AccountStore.ledger l.initial.store).store (g.S.AccountStore.ledger l.store).store
+    Raised (take l.t-index l.transactions) (g.S.AccountStore.store l.initial.store) (g.S.AccountStore.store l.store)

@@ -9,8 +9,9 @@ scaled n p h l = let a : n * p ≤ largest * p = mul-le-mul_right p h in omega a
 
 pub overflow_add-had : goal.overflow_add-had
 overflow_add-had g c =
-    let l = g.S.AccountStore.ledger c.args.store.now in
-    let had = balance_fits l.store l.sound c.args.key.account c.args.key.bought in
+    let l = g.S.AccountStore.store c.args.store.now in
+    let l_sound = g.met.S.AccountStore.sound c.args.store.now in
+    let had = balance_fits l l_sound c.args.key.account c.args.key.bought in
     let small : c.if-amount-rest.sold ≤ largest =
     elim c.if-amount-rest.branch [ then-amount-rest w ↦ omega (arith, w.sold-is, c.requires.0) | else-amount-rest w ↦ omega (arith, w.sold-is, c.requires.0) ] in
     let p = scaled c.if-amount-rest.sold c.args.rates.sold small c.requires.1.0 in

@@ -15,35 +15,38 @@ refused rest at (Err _) e = tt
 
 pub returns-in-None : goal.returns-in-None
 returns-in-None g c =
-    let o = g.B.OfferBook.orders c.args.book.now in
+    let o = g.B.OfferBook.book c.args.book.now in
+    let o_sound = g.met.B.OfferBook.sound c.args.book.now in
     record {
       bounded = tt;
       kept = refl;
       turned = λ s b first p here. (
         here,
         used_none s b first p.ready c.args.at.sold c.args.at.bought c.args.at c.args.rest _ _ here
-            (next_key o.book o.sound c.args.at None c.in-None.ensures),
+            (next_key o o_sound c.args.at None c.in-None.ensures),
       );
     }
 
 pub returns-then-not-serves : goal.returns-then-not-serves
 returns-then-not-serves g c =
-    let o = g.B.OfferBook.orders c.args.book.now in
+    let o = g.B.OfferBook.book c.args.book.now in
+    let o_sound = g.met.B.OfferBook.sound c.args.book.now in
     record {
       bounded = tt;
       kept = refl;
       turned = λ s b first p here. (
         here,
         used_next s b first p.ready c.args.at.sold c.args.at.bought c.args.at c.args.rest _ _ here c.in-Some.key
-            (next_key o.book o.sound c.args.at (Some c.in-Some.key) c.in-Some.ensures)
+            (next_key o o_sound c.args.at (Some c.in-Some.key) c.in-Some.ensures)
             (unfit s b first c.args.rates c.args.at p c.in-Some.key (sym c.if-not-serves.ensures)),
       );
     }
 
 pub returns-in_err-fill-in-Some : goal.returns-in_err-fill-in-Some
 returns-in_err-fill-in-Some g c =
-    let o = g.B.OfferBook.orders c.args.book.now in
-    let next = next_key o.book o.sound c.args.at (Some c.in-Some.key) c.in-Some.ensures in
+    let o = g.B.OfferBook.book c.args.book.now in
+    let o_sound = g.met.B.OfferBook.sound c.args.book.now in
+    let next = next_key o o_sound c.args.at (Some c.in-Some.key) c.in-Some.ensures in
     let (pq, e) = and_parts _ _ (sym c.if-not-serves.ensures) in
     let (ps, pb) = and_parts _ _ pq in
     record {
@@ -57,8 +60,9 @@ returns-in_err-fill-in-Some g c =
 
 pub returns-in_ok-fill-in-Some : goal.returns-in_ok-fill-in-Some
 returns-in_ok-fill-in-Some g c =
-    let o = g.B.OfferBook.orders c.args.book.now in
-    let next = next_key o.book o.sound c.args.at (Some c.in-Some.key) c.in-Some.ensures in
+    let o = g.B.OfferBook.book c.args.book.now in
+    let o_sound = g.met.B.OfferBook.sound c.args.book.now in
+    let next = next_key o o_sound c.args.at (Some c.in-Some.key) c.in-Some.ensures in
     let (pq, e) = and_parts _ _ (sym c.if-not-serves.ensures) in
     let (ps, pb) = and_parts _ _ pq in
     let (ek, done) = c.in_ok-fill-in-Some.ensures in

@@ -10,8 +10,8 @@ use Rattle.clearing_walk.proofs.walk_volumes.Given as goal
 abbrev pub invariant-loop-v : goal.invariant-loop-v
 invariant-loop-v g l =
     (length l.outs ≡ 8)
-    × ((g.B.OfferBook.orders l.book).book.capacity ≡ (g.B.OfferBook.orders l.initial.book).book.capacity)
+    × ((g.B.OfferBook.book l.book).capacity ≡ (g.B.OfferBook.book l.initial.book).capacity)
     × ((s : State) (b : Block) → Holds b l.prices l.volumes
-    → Ready s b (g.S.AccountStore.ledger l.initial.store).store
-    → ((j : Key) → amount_at (g.B.OfferBook.orders l.initial.book).book.offers j ≡ amount_at (trading s b) j)
-    → Passing s b (g.S.AccountStore.ledger l.initial.store).store l.v-index (g.S.AccountStore.ledger l.store).store (g.B.OfferBook.orders l.book).book.offers l.outs)
+    → Ready s b (g.S.AccountStore.store l.initial.store)
+    → ((j : Key) → amount_at (g.B.OfferBook.book l.initial.book).offers j ≡ amount_at (trading s b) j)
+    → Passing s b (g.S.AccountStore.store l.initial.store) l.v-index (g.S.AccountStore.store l.store) (g.B.OfferBook.book l.book).offers l.outs)

@@ -9,7 +9,7 @@ use Rattle.fills.proofs.amount_ahead.Goals as goal
 
 pub returns : goal.returns
 returns g c once =
-    let bk = (g.B.OfferBook.orders c.args.book.now).book in
+    let bk = (g.B.OfferBook.book c.args.book.now) in
     let ts = c.args.transactions.now in
     let k = c.args.key in
     let new = c.sum-placed.ensures.is ∙ sym (sum_by_joined (λ o. cond (ahead k o.key) o.amount 0) placed ts) in

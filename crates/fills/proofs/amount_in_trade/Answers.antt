@@ -10,7 +10,7 @@ use Rattle.fills.proofs.amount_in_trade.Goals as goal
 
 pub returns-then-sum-gt0 : goal.returns-then-sum-gt0
 returns-then-sum-gt0 g c =
-    let bk = (g.B.OfferBook.orders c.args.book.now).book in
+    let bk = (g.B.OfferBook.book c.args.book.now) in
     let ts = c.args.transactions.now in
     let k = c.args.key in
     let new = c.sum-placed.ensures.is ∙ sym (sum_by_joined (λ o. cond (same (place o) (words k)) o.amount 0) placed ts) in
@@ -20,7 +20,7 @@ returns-then-sum-gt0 g c =
 
 pub returns : goal.returns
 returns g c =
-    let bk = (g.B.OfferBook.orders c.args.book.now).book in
+    let bk = (g.B.OfferBook.book c.args.book.now) in
     let ts = c.args.transactions.now in
     let k = c.args.key in
     let new = c.sum-placed.ensures.is ∙ sym (sum_by_joined (λ o. cond (same (place o) (words k)) o.amount 0) placed ts) in

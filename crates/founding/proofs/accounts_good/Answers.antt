@@ -10,7 +10,7 @@ use Rattle.founding.proofs.accounts_good.Goals as goal
 pub returns-in-Some : goal.returns-in-Some
 returns-in-Some g c =
     let gs = c.args.grants.now in
-    let st = (g.S.AccountStore.ledger c.args.store.now).store in
+    let st = (g.S.AccountStore.store c.args.store.now) in
     let s = c.in-Some.ensures in
     let t = front c.sums.new.nets c.in-Some.n s.2 in
     record {

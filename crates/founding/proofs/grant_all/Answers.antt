@@ -13,12 +13,12 @@ pub loop-grant-preserved : goal.loop-grant-preserved
 loop-grant-preserved g c empty clean =
     let gs = c.grants-grants.result.now in
     let fit = subst (λ l. fit_grants l ≡ true) (sym c.grants-grants.ensures) c.args.founding.now.ranges in
-    granted_more (g.S.AccountStore.ledger c.args.store.now).store gs fit empty clean _ c.loop-grant.grant-index _ c.loop-grant-test.true (c.loop-grant.invariant empty clean)
-    (g.S.AccountStore.ledger c.open_with.new.store).store c.in_ok-open_with.ensures.after
+    granted_more (g.S.AccountStore.store c.args.store.now) gs fit empty clean _ c.loop-grant.grant-index _ c.loop-grant-test.true (c.loop-grant.invariant empty clean)
+    (g.S.AccountStore.store c.open_with.new.store) c.in_ok-open_with.ensures.after
 
 pub returns-in_err-open_with : goal.returns-in_err-open_with
 returns-in_err-open_with g c empty clean =
-    let s = (g.S.AccountStore.ledger c.args.store.now).store in
+    let s = (g.S.AccountStore.store c.args.store.now) in
     let gs = c.grants-grants.result.now in
     let fit = subst (λ l. fit_grants l ≡ true) (sym c.grants-grants.ensures) c.args.founding.now.ranges in
     let fine = subst (λ l. FoundingVerdict s l None) (sym c.grants-grants.ensures) clean in
@@ -26,7 +26,7 @@ returns-in_err-open_with g c empty clean =
 
 pub returns : goal.returns
 returns g c empty clean =
-    let s = (g.S.AccountStore.ledger c.args.store.now).store in
+    let s = (g.S.AccountStore.store c.args.store.now) in
     let fine = subst (λ l. FoundingVerdict s l None) (sym c.grants-grants.ensures) clean in
-    subst (λ l. GrantedAll s l (g.S.AccountStore.ledger c.loop-grant.store).store)
+    subst (λ l. GrantedAll s l (g.S.AccountStore.store c.loop-grant.store))
     (take_all c.loop-grant.grant-index c.grants-grants.result.now c.loop-grant-test.false ∙ c.grants-grants.ensures) (c.loop-grant.invariant empty fine)

@@ -7,7 +7,7 @@ use Rattle.founding.proofs.judge_founding.Goals as goal
 
 pub returns-in_err-accounts_good : goal.returns-in_err-accounts_good
 returns-in_err-accounts_good g c =
-    let st = (g.S.AccountStore.ledger c.args.store.now).store in
+    let st = (g.S.AccountStore.store c.args.store.now) in
     let gs = c.grants-grants in
     let short = few gs.result.now (grants_of c.args.founding.now) gs.ensures c.args.founding.now.ranges in
     let r = c.from_residual in
@@ -16,7 +16,7 @@ returns-in_err-accounts_good g c =
 
 pub returns-in_err-accounts_fit : goal.returns-in_err-accounts_fit
 returns-in_err-accounts_fit g c =
-    let st = (g.S.AccountStore.ledger c.args.store.now).store in
+    let st = (g.S.AccountStore.store c.args.store.now) in
     let gs = c.grants-grants in
     let short = few gs.result.now (grants_of c.args.founding.now) gs.ensures c.args.founding.now.ranges in
     let r = c.from_residual-in_err-accounts_fit in
@@ -25,7 +25,7 @@ returns-in_err-accounts_fit g c =
 
 pub returns : goal.returns
 returns g c =
-    let st = (g.S.AccountStore.ledger c.args.store.now).store in
+    let st = (g.S.AccountStore.store c.args.store.now) in
     let gs = c.grants-grants in
     let short = few gs.result.now (grants_of c.args.founding.now) gs.ensures c.args.founding.now.ranges in
     let r = c.amounts_fit in

@@ -9,8 +9,8 @@ use Rattle.judging.proofs.judge.Goals as goal
 
 pub returns-in_err-judge_heading : goal.returns-in_err-judge_heading
 returns-in_err-judge_heading g c =
-    let st = (g.S.AccountStore.ledger c.args.store.now).store in
-    let bk = (g.B.OfferBook.orders c.args.book.now).book in
+    let st = (g.S.AccountStore.store c.args.store.now) in
+    let bk = (g.B.OfferBook.book c.args.book.now) in
     let s = scene st bk c.args.height c.args.digest.now in
     let b = block_of c.args.block.now in
     let r = c.from_residual in
@@ -20,8 +20,8 @@ returns-in_err-judge_heading g c =
 
 pub returns-in_err-judge_transactions : goal.returns-in_err-judge_transactions
 returns-in_err-judge_transactions g c =
-    let st = (g.S.AccountStore.ledger c.args.store.now).store in
-    let bk = (g.B.OfferBook.orders c.args.book.now).book in
+    let st = (g.S.AccountStore.store c.args.store.now) in
+    let bk = (g.B.OfferBook.book c.args.book.now) in
     let s = scene st bk c.args.height c.args.digest.now in
     let b = block_of c.args.block.now in
     let r = c.from_residual-in_err-judge_transactions in
@@ -33,8 +33,8 @@ returns-in_err-judge_transactions g c =
 
 pub returns : goal.returns
 returns g c =
-    let st = (g.S.AccountStore.ledger c.args.store.now).store in
-    let bk = (g.B.OfferBook.orders c.args.book.now).book in
+    let st = (g.S.AccountStore.store c.args.store.now) in
+    let bk = (g.B.OfferBook.book c.args.book.now) in
     let s = scene st bk c.args.height c.args.digest.now in
     let b = block_of c.args.block.now in
     let r = c.judge_totals in

@@ -14,7 +14,7 @@ use Rattle.judging.proofs.judge_totals.Goals as goal
 
 pub returns-in_err-balances_covered : goal.returns-in_err-balances_covered
 returns-in_err-balances_covered g c once h d =
-    let s = scene (g.S.AccountStore.ledger c.args.store.now).store (g.B.OfferBook.orders c.args.book.now).book h d in
+    let s = scene (g.S.AccountStore.store c.args.store.now) (g.B.OfferBook.book c.args.book.now) h d in
     let a = block_of c.args.block.now in
     let ts = c.transactions-transactions in
     let b = made a.height a.parent a.prices a.volumes ts.result.now in
@@ -26,7 +26,7 @@ returns-in_err-balances_covered g c once h d =
 
 pub returns-in_err-accounts_fit : goal.returns-in_err-accounts_fit
 returns-in_err-accounts_fit g c once h d =
-    let s = scene (g.S.AccountStore.ledger c.args.store.now).store (g.B.OfferBook.orders c.args.book.now).book h d in
+    let s = scene (g.S.AccountStore.store c.args.store.now) (g.B.OfferBook.book c.args.book.now) h d in
     let a = block_of c.args.block.now in
     let ts = c.transactions-transactions in
     let b = made a.height a.parent a.prices a.volumes ts.result.now in
@@ -39,7 +39,7 @@ returns-in_err-accounts_fit g c once h d =
 
 pub returns-in_err-offers_fit : goal.returns-in_err-offers_fit
 returns-in_err-offers_fit g c once h d =
-    let s = scene (g.S.AccountStore.ledger c.args.store.now).store (g.B.OfferBook.orders c.args.book.now).book h d in
+    let s = scene (g.S.AccountStore.store c.args.store.now) (g.B.OfferBook.book c.args.book.now) h d in
     let a = block_of c.args.block.now in
     let ts = c.transactions-transactions in
     let b = made a.height a.parent a.prices a.volumes ts.result.now in
@@ -53,7 +53,7 @@ returns-in_err-offers_fit g c once h d =
 
 pub returns : goal.returns
 returns g c once h d =
-    let s = scene (g.S.AccountStore.ledger c.args.store.now).store (g.B.OfferBook.orders c.args.book.now).book h d in
+    let s = scene (g.S.AccountStore.store c.args.store.now) (g.B.OfferBook.book c.args.book.now) h d in
     let a = block_of c.args.block.now in
     let ts = c.transactions-transactions in
     let b = made a.height a.parent c.prices.result.now c.volumes.result.now ts.result.now in

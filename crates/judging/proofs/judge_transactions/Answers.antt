@@ -9,7 +9,7 @@ use Rattle.judging.proofs.judge_transactions.Goals as goal
 
 pub returns-in_err-sources_stand : goal.returns-in_err-sources_stand
 returns-in_err-sources_stand g c h d =
-    let s = scene (g.S.AccountStore.ledger c.args.store.now).store (g.B.OfferBook.orders c.args.book.now).book h d in
+    let s = scene (g.S.AccountStore.store c.args.store.now) (g.B.OfferBook.book c.args.book.now) h d in
     let a = block_of c.args.block.now in
     let ts = c.transactions-transactions in
     let b = made a.height a.parent a.prices a.volumes ts.result.now in
@@ -20,7 +20,7 @@ returns-in_err-sources_stand g c h d =
 
 pub returns-in_err-sequences_in_window : goal.returns-in_err-sequences_in_window
 returns-in_err-sequences_in_window g c h d =
-    let s = scene (g.S.AccountStore.ledger c.args.store.now).store (g.B.OfferBook.orders c.args.book.now).book h d in
+    let s = scene (g.S.AccountStore.store c.args.store.now) (g.B.OfferBook.book c.args.book.now) h d in
     let a = block_of c.args.block.now in
     let ts = c.transactions-transactions in
     let b = made a.height a.parent a.prices a.volumes ts.result.now in
@@ -32,7 +32,7 @@ returns-in_err-sequences_in_window g c h d =
 
 pub returns-in_err-tags_differ : goal.returns-in_err-tags_differ
 returns-in_err-tags_differ g c h d =
-    let s = scene (g.S.AccountStore.ledger c.args.store.now).store (g.B.OfferBook.orders c.args.book.now).book h d in
+    let s = scene (g.S.AccountStore.store c.args.store.now) (g.B.OfferBook.book c.args.book.now) h d in
     let a = block_of c.args.block.now in
     let ts = c.transactions-transactions in
     let b = made a.height a.parent a.prices a.volumes ts.result.now in
@@ -46,7 +46,7 @@ returns-in_err-tags_differ g c h d =
 
 pub returns-in_err-receivers_stand : goal.returns-in_err-receivers_stand
 returns-in_err-receivers_stand g c h d =
-    let s = scene (g.S.AccountStore.ledger c.args.store.now).store (g.B.OfferBook.orders c.args.book.now).book h d in
+    let s = scene (g.S.AccountStore.store c.args.store.now) (g.B.OfferBook.book c.args.book.now) h d in
     let a = block_of c.args.block.now in
     let ts = c.transactions-transactions in
     let b = made a.height a.parent a.prices a.volumes ts.result.now in
@@ -61,7 +61,7 @@ returns-in_err-receivers_stand g c h d =
 
 pub returns-in_err-openings_good : goal.returns-in_err-openings_good
 returns-in_err-openings_good g c h d =
-    let s = scene (g.S.AccountStore.ledger c.args.store.now).store (g.B.OfferBook.orders c.args.book.now).book h d in
+    let s = scene (g.S.AccountStore.store c.args.store.now) (g.B.OfferBook.book c.args.book.now) h d in
     let a = block_of c.args.block.now in
     let ts = c.transactions-transactions in
     let b = made a.height a.parent a.prices a.volumes ts.result.now in
@@ -77,7 +77,7 @@ returns-in_err-openings_good g c h d =
 
 pub returns-in_err-cancelled_stand : goal.returns-in_err-cancelled_stand
 returns-in_err-cancelled_stand g c h d =
-    let s = scene (g.S.AccountStore.ledger c.args.store.now).store (g.B.OfferBook.orders c.args.book.now).book h d in
+    let s = scene (g.S.AccountStore.store c.args.store.now) (g.B.OfferBook.book c.args.book.now) h d in
     let a = block_of c.args.block.now in
     let ts = c.transactions-transactions in
     let b = made a.height a.parent a.prices a.volumes ts.result.now in
@@ -94,7 +94,7 @@ returns-in_err-cancelled_stand g c h d =
 
 pub returns : goal.returns
 returns g c h d =
-    let s = scene (g.S.AccountStore.ledger c.args.store.now).store (g.B.OfferBook.orders c.args.book.now).book h d in
+    let s = scene (g.S.AccountStore.store c.args.store.now) (g.B.OfferBook.book c.args.book.now) h d in
     let a = block_of c.args.block.now in
     let ts = c.transactions-transactions in
     let b = made a.height a.parent a.prices a.volumes ts.result.now in

@@ -11,8 +11,8 @@ use Rattle.judging_balances.proofs.balances_covered.Goals as goal
 pub returns-in-Some : goal.returns-in-Some
 returns-in-Some g c =
     let ts = c.args.transactions.now in
-    let st = (g.S.AccountStore.ledger c.args.store.now).store in
-    let bk = (g.B.OfferBook.orders c.args.book.now).book in
+    let st = (g.S.AccountStore.store c.args.store.now) in
+    let bk = (g.B.OfferBook.book c.args.book.now) in
     let s = c.in-Some.ensures in
     let t = front c.nets.new.nets c.in-Some.n s.2 in
     record {

@@ -7,7 +7,7 @@ pub returns-then-room-wanted : goal.returns-then-room-wanted
 returns-then-room-wanted g c =
     let ts = c.args.transactions.now in
     record {
-      row = λ few. told_once _ _ 19 c.refusal-then-room-wanted.ensures (omega (arith, counted_created ts few));
+      row = λ few. told_once _ _ 19 c.into-then-room-wanted.ensures (omega (arith, counted_created ts few));
       many = λ h. absurd (omega arith);
     }
 

@@ -7,7 +7,7 @@ pub returns-then-room-wanted : goal.returns-then-room-wanted
 returns-then-room-wanted g c =
     let ts = c.args.transactions.now in
     record {
-      row = λ few. told_once _ _ 20 c.refusal-then-room-wanted.ensures (omega (arith, counted_placed ts few, counted_cancelled ts few));
+      row = λ few. told_once _ _ 20 c.into-then-room-wanted.ensures (omega (arith, counted_placed ts few, counted_cancelled ts few));
       many = λ h. absurd (omega arith);
     }
 

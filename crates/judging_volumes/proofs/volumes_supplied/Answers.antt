@@ -14,7 +14,7 @@ returns-in-Some g c =
     let e : n ≡ n - 0 = omega arith in
     record {
       row = λ few once up.
-          told_volumes (g.B.OfferBook.orders c.args.book.now).book c.args.prices.now c.args.volumes.now c.args.transactions.now up 21
+          told_volumes (g.B.OfferBook.book c.args.book.now) c.args.prices.now c.args.volumes.now c.args.transactions.now up 21
           c.report.result (c.report.ensures (front ns n s.2, subst (λ m. AllByRecursion Small (take m ns)) e s.3, once));
       many = λ h. absurd (let r = s.0 in grind (arith, nat_tests));
     }

@@ -8,4 +8,4 @@ pub returns-then-ne : goal.returns-then-ne
 returns-then-ne g c =
     let h : same (words c.args.old) (words c.args.new) ≡ false = grind (arith, nat_tests) in
     ap (ltb 0) c.amount.ensures
-    ∙ sym (ap (λ t. not t && ltb 0 (amount_at (g.B.OfferBook.orders c.args.book.now).book.offers c.args.new)) h)
+    ∙ sym (ap (λ t. not t && ltb 0 (amount_at (g.B.OfferBook.book c.args.book.now).offers c.args.new)) h)

@@ -12,8 +12,8 @@ use Rattle.state_digest.proofs.add_account.Goals as goal
 
 pub returns : goal.returns
 returns g c = λ m a has is k.
-    let st = (g.S.AccountStore.ledger c.args.store.now).store in
-    let ok = store_parts st (g.S.AccountStore.ledger c.args.store.now).sound in
+    let st = (g.S.AccountStore.store c.args.store.now) in
+    let ok = store_parts st (g.met.S.AccountStore.sound c.args.store.now) in
     let floor : c.floor.result ≡ a.floor =
     c.floor.ensures ∙ ap (λ n. under name (λ b. b.floor) st.accounts (n ∷ [])) (sym is) ∙ all-has _ st.accounts a (under_each name (λ b. b.floor) st.accounts ok.up) has in
     let p : c.to_be_bytes.result ≡ bytes_of 4 a.number = c.to_be_bytes.ensures ∙ (four_bytes c.args.number ∙ ap (bytes_of 4) (sym is)) in

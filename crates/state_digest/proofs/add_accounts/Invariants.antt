@@ -10,8 +10,8 @@ abbrev pub invariant-loop-number : goal.invariant-loop-number
 invariant-loop-number g l =
     (m : List ℕ) → Holds l.initial.hasher m
     → (w : List ℕ) × Holds l.hasher w
-    × (w ++ flat_map account_bytes (rest name (g.S.AccountStore.ledger l.store).store.accounts (l.at ∷ []))
-    ≡ m ++ flat_map account_bytes (g.S.AccountStore.ledger l.store).store.accounts)
+    × (w ++ flat_map account_bytes (rest name (g.S.AccountStore.store l.store).accounts (l.at ∷ []))
+    ≡ m ++ flat_map account_bytes (g.S.AccountStore.store l.store).accounts)
 
 abbrev pub decreases-loop-number : goal.decreases-loop-number
-decreases-loop-number g l = length (rest name (g.S.AccountStore.ledger l.store).store.accounts (l.at ∷ []))
+decreases-loop-number g l = length (rest name (g.S.AccountStore.store l.store).accounts (l.at ∷ []))

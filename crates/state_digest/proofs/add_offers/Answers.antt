@@ -23,8 +23,8 @@ owned o e =
 
 pub loop-key-init : goal.loop-key-init
 loop-key-init g c = λ m k.
-    let bk = (g.B.OfferBook.orders c.args.book.now).book in
-    let ok = book_parts bk (g.B.OfferBook.orders c.args.book.now).sound in
+    let bk = (g.B.OfferBook.book c.args.book.now) in
+    let ok = book_parts bk (g.met.B.OfferBook.sound c.args.book.now) in
     let all = rest_all place bk.offers (0 ∷ 0 ∷ 0 ∷ 0 ∷ 0 ∷ []) (All-weaker _ _ (λ o e. above_zeros o.key (owned o e)) bk.offers ok.fit) in
     (m, k, ap (λ os. m ++ flat_map offer_bytes os) all)
 
@@ -33,10 +33,10 @@ some k n e h z = omega (arith, e, ap length z)
 
 -- the offer that the loop comes to
 after : (g : _) (c : goal.After-add_offer g)
-    → Next place (g.B.OfferBook.orders c.args.book.now).book.offers (words c.loop-key.at) (words c.in-Some.key)
+    → Next place (g.B.OfferBook.book c.args.book.now).offers (words c.loop-key.at) (words c.in-Some.key)
 after g c =
-    let bk = (g.B.OfferBook.orders c.args.book.now).book in
-    let ok = book_parts bk (g.B.OfferBook.orders c.args.book.now).sound in
+    let bk = (g.B.OfferBook.book c.args.book.now) in
+    let ok = book_parts bk (g.met.B.OfferBook.sound c.args.book.now) in
     rest_next place bk.offers _ _ ok.up (some _ 5 refl (omega arith)) (sym c.in-Some.ensures)
 
 pub loop-key-smaller : goal.loop-key-smaller
@@ -44,8 +44,8 @@ loop-key-smaller g c = fewer place offer_bytes _ _ _ (after g c)
 
 pub loop-key-preserved : goal.loop-key-preserved
 loop-key-preserved g c = λ m k.
-    let bk = (g.B.OfferBook.orders c.args.book.now).book in
-    let ok = book_parts bk (g.B.OfferBook.orders c.args.book.now).sound in
+    let bk = (g.B.OfferBook.book c.args.book.now) in
+    let ok = book_parts bk (g.met.B.OfferBook.sound c.args.book.now) in
     let n = after g c in
     let o = n.entry in
     let key : c.in-Some.key ≡ o.key = sym (key_is o.key c.in-Some.key n.is) in
@@ -60,7 +60,7 @@ loop-key-preserved g c = λ m k.
 
 pub returns : goal.returns
 returns g c = λ m k.
-    let bk = (g.B.OfferBook.orders c.args.book.now).book in
-    let none = rest_end place bk.offers (words c.loop-key.at) (All-weaker _ _ (λ o _. some _ 5 refl (omega arith)) bk.offers (book_parts bk (g.B.OfferBook.orders c.args.book.now).sound).fit) (sym c.in_default.ensures) in
+    let bk = (g.B.OfferBook.book c.args.book.now) in
+    let none = rest_end place bk.offers (words c.loop-key.at) (All-weaker _ _ (λ o _. some _ 5 refl (omega arith)) bk.offers (book_parts bk (g.met.B.OfferBook.sound c.args.book.now)).fit) (sym c.in_default.ensures) in
     let before = c.loop-key.invariant m k in
     subst (Holds c.loop-key.hasher) (ended place offer_bytes bk.offers (words c.loop-key.at) before.0 _ none before.2) before.1

@@ -10,8 +10,8 @@ abbrev pub invariant-loop-key : goal.invariant-loop-key
 invariant-loop-key g l =
     (m : List ℕ) → Holds l.initial.hasher m
     → (w : List ℕ) × Holds l.hasher w
-    × (w ++ flat_map offer_bytes (rest place (g.B.OfferBook.orders l.book).book.offers (words l.at))
-    ≡ m ++ flat_map offer_bytes (g.B.OfferBook.orders l.book).book.offers)
+    × (w ++ flat_map offer_bytes (rest place (g.B.OfferBook.book l.book).offers (words l.at))
+    ≡ m ++ flat_map offer_bytes (g.B.OfferBook.book l.book).offers)
 
 abbrev pub decreases-loop-key : goal.decreases-loop-key
-decreases-loop-key g l = length (rest place (g.B.OfferBook.orders l.book).book.offers (words l.at))
+decreases-loop-key g l = length (rest place (g.B.OfferBook.book l.book).offers (words l.at))

@@ -5,4 +5,4 @@ use Rattle.state_digest.proofs.balances.Given as goal
 abbrev pub invariant-loop-asset : goal.invariant-loop-asset
 invariant-loop-asset g l =
     (length l.balances ≡ 8)
-    × ((x : ℕ) → x < l.asset → get_or l.balances x 0 ≡ balance_at (g.S.AccountStore.ledger l.store).store l.number x)
+    × ((x : ℕ) → x < l.asset → get_or l.balances x 0 ≡ balance_at (g.S.AccountStore.store l.store) l.number x)

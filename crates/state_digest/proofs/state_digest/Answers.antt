@@ -8,8 +8,8 @@ use Rattle.state_digest.proofs.state_digest.Goals as goal
 
 pub returns : goal.returns
 returns g c = λ s st bk h rs.
-    let accounts = (g.S.AccountStore.ledger c.args.store.now).store.accounts in
-    let offers = (g.B.OfferBook.orders c.args.book.now).book.offers in
+    let accounts = (g.S.AccountStore.store c.args.store.now).accounts in
+    let offers = (g.B.OfferBook.book c.args.book.now).offers in
     let standing : s.store.accounts ≡ accounts = ap (λ x. x.accounts) st in
     let resting : s.book.offers ≡ offers = ap (λ x. x.offers) bk in
     let height : c.to_be_bytes.result ≡ bytes_of 4 s.own.height = c.to_be_bytes.ensures ∙ (four_bytes c.args.height ∙ ap (bytes_of 4) (sym h)) in

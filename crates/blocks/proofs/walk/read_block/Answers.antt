@@ -42,7 +42,7 @@ returns-then-reading-bytes c =
     let t = step_took bs at (admits g) (shown c.in_ok-reading.reading.command) n c.in_ok-reading.ensures in
     let u = subst (λ x. Took bs at (admits g) (shown x) n) c.in-End.is t in
     inr
-    (i.0, subst (Stops is_begin bs) (sym c.fault_at.ensures) (stops_trailing is_begin bs i.1 at g i.2.reached n u c.if-reading-bytes.true))
+    (i.0, subst (Stops is_begin bs) (sym c.at_byte.ensures) (stops_trailing is_begin bs i.1 at g i.2.reached n u c.if-reading-bytes.true))
 
 pub invariant_of-result : goal.invariant_of-result
 invariant_of-result c =
@@ -73,7 +73,7 @@ returns-then-overflows c =
     let f = full c.loop-at.draft.count x i.2.says.few (overflow c.loop-at.draft.count x c.if-overflows.ensures) in
     inr (
       i.0,
-      subst (Stops is_begin bs) (sym c.fault_at-then-overflows.ensures)
+      subst (Stops is_begin bs) (sym c.at_byte-then-overflows.ensures)
           (stops_excess is_begin bs i.1 at g i.2.reached x n t (counted bs i.1 at g c.loop-at.draft i.2 ∙ f.0) f.1),
     )
 
@@ -122,6 +122,6 @@ returns c =
     let i = c.loop-at.invariant in
     inr (
       i.0,
-      subst (Stops is_begin bs) (sym c.fault_at-2.ensures)
+      subst (Stops is_begin bs) (sym c.at_byte-2.ensures)
           (stops_missing is_begin bs i.1 c.loop-at.at c.loop-at.stage i.2.reached c.loop-at-test.false),
     )

@@ -38,7 +38,7 @@ returns-then-reading-bytes c =
     let t = step_took bs at (admits Grants) (shown c.in_ok-reading.reading.command) n c.in_ok-reading.ensures in
     let u = subst (λ x. Took bs at (admits Grants) (shown x) n) c.in-End.is t in
     inr
-    (i.0, subst (Stops is_grant bs) (sym c.fault_at.ensures) (stops_trailing is_grant bs i.1 at Grants i.2.reached n u c.if-reading-bytes.true))
+    (i.0, subst (Stops is_grant bs) (sym c.at_byte.ensures) (stops_trailing is_grant bs i.1 at Grants i.2.reached n u c.if-reading-bytes.true))
 
 pub invariant_of-result : goal.invariant_of-result
 invariant_of-result c =
@@ -101,6 +101,6 @@ returns c =
     let i = c.loop-at.invariant in
     inr (
       i.0,
-      subst (Stops is_grant bs) (sym c.fault_at-2.ensures)
+      subst (Stops is_grant bs) (sym c.at_byte-2.ensures)
           (stops_missing is_grant bs i.1 c.loop-at.at Grants i.2.reached c.loop-at-test.false),
     )

@@ -8,15 +8,17 @@ use Rattle.fills.proofs.standing.standing_ahead.Goals as goal
 
 pub overflow_add-result : goal.overflow_add-result
 overflow_add-result g c =
-    let o = g.B.OfferBook.orders c.args.book.now in
+    let o = g.B.OfferBook.book c.args.book.now in
+    let o_sound = g.met.B.OfferBook.sound c.args.book.now in
     let k = c.args.key in
-    let low = part_fits o.book (λ p. eqb p.key.sold k.sold && (eqb p.key.bought k.bought && leb p.key.limit c.saturating_sub.result)) (book_parts o.book o.sound) in
-    let same = between_fits o.book o.sound (k.sold ∷ k.bought ∷ k.limit ∷ 0 ∷ 0 ∷ []) (words k) in
+    let low = part_fits o (λ p. eqb p.key.sold k.sold && (eqb p.key.bought k.bought && leb p.key.limit c.saturating_sub.result)) (book_parts o o_sound) in
+    let same = between_fits o o_sound (k.sold ∷ k.bought ∷ k.limit ∷ 0 ∷ 0 ∷ []) (words k) in
     omega (arith, low, same, c.up_to-lower.ensures, c.sum_between.ensures)
 
 pub returns : goal.returns
 returns g c =
-    let o = g.B.OfferBook.orders c.args.book.now in
+    let o = g.B.OfferBook.book c.args.book.now in
+    let o_sound = g.met.B.OfferBook.sound c.args.book.now in
     let k = c.args.key in
-    let low : c.up_to-lower.result ≡ up_to o.book k.sold k.bought (k.limit - 1) = c.up_to-lower.ensures ∙ ap (up_to o.book k.sold k.bought) c.saturating_sub.ensures in
-    omega (arith, low, c.sum_between.ensures, standing_split o.book k (book_parts o.book o.sound).fit)
+    let low : c.up_to-lower.result ≡ up_to o k.sold k.bought (k.limit - 1) = c.up_to-lower.ensures ∙ ap (up_to o k.sold k.bought) c.saturating_sub.ensures in
+    omega (arith, low, c.sum_between.ensures, standing_split o k (book_parts o o_sound).fit)

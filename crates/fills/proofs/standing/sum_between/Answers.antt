@@ -8,34 +8,39 @@ loop-key-init g c = omega arith
 
 pub returns-then-not-precedes : goal.returns-then-not-precedes
 returns-then-not-precedes g c =
-    let o = g.B.OfferBook.orders c.args.book.now in
-    let n = next_in o.book o.sound (words c.loop-key.last) c.in-Some.key c.in-Some.ensures in
-    let e = between_end o.book.offers (words c.loop-key.last) (words c.args.high) c.in-Some.key n (sym c.precedes.ensures ∙ c.if-not-precedes.true) in
+    let o = g.B.OfferBook.book c.args.book.now in
+    let o_sound = g.met.B.OfferBook.sound c.args.book.now in
+    let n = next_in o o_sound (words c.loop-key.last) c.in-Some.key c.in-Some.ensures in
+    let e = between_end o.offers (words c.loop-key.last) (words c.args.high) c.in-Some.key n (sym c.precedes.ensures ∙ c.if-not-precedes.true) in
     omega (arith, e, c.loop-key.invariant)
 
 pub overflow_add-total : goal.overflow_add-total
 overflow_add-total g c =
-    let o = g.B.OfferBook.orders c.args.book.now in
-    let n = next_in o.book o.sound (words c.loop-key.last) c.in-Some.key c.in-Some.ensures in
-    let e = between_next o.book.offers (words c.loop-key.last) (words c.args.high) c.in-Some.key n (sym c.precedes.ensures ∙ c.if-not-precedes.false) in
-    omega (arith, e, c.loop-key.invariant, c.amount-total.ensures, between_fits o.book o.sound (words c.args.low) (words c.args.high))
+    let o = g.B.OfferBook.book c.args.book.now in
+    let o_sound = g.met.B.OfferBook.sound c.args.book.now in
+    let n = next_in o o_sound (words c.loop-key.last) c.in-Some.key c.in-Some.ensures in
+    let e = between_next o.offers (words c.loop-key.last) (words c.args.high) c.in-Some.key n (sym c.precedes.ensures ∙ c.if-not-precedes.false) in
+    omega (arith, e, c.loop-key.invariant, c.amount-total.ensures, between_fits o o_sound (words c.args.low) (words c.args.high))
 
 pub loop-key-smaller : goal.loop-key-smaller
 loop-key-smaller g c =
-    let o = g.B.OfferBook.orders c.args.book.now in
-    let n = next_in o.book o.sound (words c.loop-key.last) c.in-Some.key c.in-Some.ensures in
-    let e = between_next o.book.offers (words c.loop-key.last) (words c.args.high) c.in-Some.key n (sym c.precedes.ensures ∙ c.if-not-precedes.false) in
+    let o = g.B.OfferBook.book c.args.book.now in
+    let o_sound = g.met.B.OfferBook.sound c.args.book.now in
+    let n = next_in o o_sound (words c.loop-key.last) c.in-Some.key c.in-Some.ensures in
+    let e = between_next o.offers (words c.loop-key.last) (words c.args.high) c.in-Some.key n (sym c.precedes.ensures ∙ c.if-not-precedes.false) in
     omega (arith, e, n.some)
 
 pub loop-key-preserved : goal.loop-key-preserved
 loop-key-preserved g c =
-    let o = g.B.OfferBook.orders c.args.book.now in
-    let n = next_in o.book o.sound (words c.loop-key.last) c.in-Some.key c.in-Some.ensures in
-    let e = between_next o.book.offers (words c.loop-key.last) (words c.args.high) c.in-Some.key n (sym c.precedes.ensures ∙ c.if-not-precedes.false) in
+    let o = g.B.OfferBook.book c.args.book.now in
+    let o_sound = g.met.B.OfferBook.sound c.args.book.now in
+    let n = next_in o o_sound (words c.loop-key.last) c.in-Some.key c.in-Some.ensures in
+    let e = between_next o.offers (words c.loop-key.last) (words c.args.high) c.in-Some.key n (sym c.precedes.ensures ∙ c.if-not-precedes.false) in
     omega (arith, e, c.loop-key.invariant, c.amount-total.ensures)
 
 pub returns : goal.returns
 returns g c =
-    let o = g.B.OfferBook.orders c.args.book.now in
-    let z = between_none o.book.offers (words c.loop-key.last) (words c.args.high) (none_above o.book.offers (words c.loop-key.last) c.in_default.ensures) in
+    let o = g.B.OfferBook.book c.args.book.now in
+    let o_sound = g.met.B.OfferBook.sound c.args.book.now in
+    let z = between_none o.offers (words c.loop-key.last) (words c.args.high) (none_above o.offers (words c.loop-key.last) c.in_default.ensures) in
     omega (arith, z, c.loop-key.invariant)

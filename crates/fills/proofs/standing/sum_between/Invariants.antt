@@ -5,8 +5,8 @@ use Rattle.fills.proofs.standing.sum_between.Given as goal
 
 abbrev pub invariant-loop-key : goal.invariant-loop-key
 invariant-loop-key g l =
-    l.total + between (words l.last) (words l.high) (g.B.OfferBook.orders l.book).book.offers
-    ≡ between (words l.initial.last) (words l.high) (g.B.OfferBook.orders l.book).book.offers
+    l.total + between (words l.last) (words l.high) (g.B.OfferBook.book l.book).offers
+    ≡ between (words l.initial.last) (words l.high) (g.B.OfferBook.book l.book).offers
 
 abbrev pub decreases-loop-key : goal.decreases-loop-key
-decreases-loop-key g l = between (words l.last) (words l.high) (g.B.OfferBook.orders l.book).book.offers
+decreases-loop-key g l = between (words l.last) (words l.high) (g.B.OfferBook.book l.book).offers

@@ -12,7 +12,7 @@ pub returns-in-Held : goal.returns-in-Held
 returns-in-Held c =
     let h = c.in-Held.ensures in
     record {
-      answer = ap Err c.refusal-in-Held.ensures ∙ open_stands (store_of c.args.self.now.top c.args.self.now.tables.slots.now (take c.args.self.now.tables.order.len c.args.self.now.tables.order.slots.now)) c.args.number c.if-number-eq0.false (omega arith) (one_of c.args.self.now.top c.args.self.now.tables.order.len c.args.self.now.tables.slots.now c.args.self.now.tables.buckets.now (take c.args.self.now.tables.order.len c.args.self.now.tables.order.slots.now) (length-take-le c.args.self.now.tables.order.len c.args.self.now.tables.order.slots.now c.args.self.now.fits) c.args.self.now.sound c.args.self.now.laid c.args.self.now.linked c.args.number c.in-Held.field-0 (omega arith) h.0 h.1);
+      answer = ap Err c.into-in-Held.ensures ∙ open_stands (store_of c.args.self.now.top c.args.self.now.tables.slots.now (take c.args.self.now.tables.order.len c.args.self.now.tables.order.slots.now)) c.args.number c.if-number-eq0.false (omega arith) (one_of c.args.self.now.top c.args.self.now.tables.order.len c.args.self.now.tables.slots.now c.args.self.now.tables.buckets.now (take c.args.self.now.tables.order.len c.args.self.now.tables.order.slots.now) (length-take-le c.args.self.now.tables.order.len c.args.self.now.tables.order.slots.now c.args.self.now.fits) c.args.self.now.sound c.args.self.now.laid c.args.self.now.linked c.args.number c.in-Held.field-0 (omega arith) h.0 h.1);
       after = refl;
     }
 
@@ -20,7 +20,7 @@ pub returns-in-Full : goal.returns-in-Full
 returns-in-Full c =
     record {
       answer =
-          ap Err c.refusal-in-Full.ensures
+          ap Err c.into-in-Full.ensures
           ∙ open_full (store_of c.args.self.now.top c.args.self.now.tables.slots.now (take c.args.self.now.tables.order.len c.args.self.now.tables.order.slots.now)) c.args.number c.if-number-eq0.false (omega arith) (none_of c.args.self.now.top c.args.self.now.tables.order.len c.args.self.now.tables.slots.now c.args.self.now.tables.buckets.now (take c.args.self.now.tables.order.len c.args.self.now.tables.order.slots.now) (length-take-le c.args.self.now.tables.order.len c.args.self.now.tables.order.slots.now c.args.self.now.fits) c.args.self.now.sound c.args.self.now.laid c.args.self.now.linked c.args.number (omega arith) (sym (c.args.self.now.finds c.args.number (omega arith)) ∙ c.in-Full.ensures.0) (λ _. 1))
           (omega (arith, none_free c.args.self.now.top c.args.self.now.tables.order.len c.args.self.now.tables.slots.now c.args.self.now.tables.buckets.now (take c.args.self.now.tables.order.len c.args.self.now.tables.order.slots.now) (length-take-le c.args.self.now.tables.order.len c.args.self.now.tables.order.slots.now c.args.self.now.fits) c.args.self.now.sound c.args.self.now.laid c.args.self.now.linked c.in-Full.ensures.1, length-map (take c.args.self.now.tables.order.len c.args.self.now.tables.order.slots.now) (lying c.args.self.now.tables.slots.now), c.args.self.now.roomy));
       after = refl;
@@ -30,7 +30,7 @@ pub returns-then-n-self : goal.returns-then-n-self
 returns-then-n-self c =
     record {
       answer =
-          ap Err c.refusal-then-n-self.ensures
+          ap Err c.into-then-n-self.ensures
           ∙ open_full (store_of c.args.self.now.top c.args.self.now.tables.slots.now (take c.args.self.now.tables.order.len c.args.self.now.tables.order.slots.now)) c.args.number c.if-number-eq0.false (omega arith) (none_of c.args.self.now.top c.args.self.now.tables.order.len c.args.self.now.tables.slots.now c.args.self.now.tables.buckets.now (take c.args.self.now.tables.order.len c.args.self.now.tables.order.slots.now) (length-take-le c.args.self.now.tables.order.len c.args.self.now.tables.order.slots.now c.args.self.now.fits) c.args.self.now.sound c.args.self.now.laid c.args.self.now.linked c.args.number (omega arith) (sym (c.args.self.now.finds c.args.number (omega arith)) ∙ c.in-Free.ensures.2) (λ _. 1)) (omega (arith, c.len-n.ensures, length-map (take c.args.self.now.tables.order.len c.args.self.now.tables.order.slots.now) (lying c.args.self.now.tables.slots.now)));
       after = refl;
     }

@@ -12,7 +12,7 @@ pub returns-then-asset-ge8 : goal.returns-then-asset-ge8
 returns-then-asset-ge8 c =
     record {
       answer =
-          ap Err c.refusal.ensures
+          ap Err c.into.ensures
           ∙ balance_out (store_of c.args.self.now.top c.args.self.now.tables.slots.now (take c.args.self.now.tables.order.len c.args.self.now.tables.order.slots.now)) c.args.number c.args.asset c.args.value (all_of_it c.args.self.now.top c.args.self.now.tables.order.len c.args.self.now.tables.slots.now c.args.self.now.tables.buckets.now (take c.args.self.now.tables.order.len c.args.self.now.tables.order.slots.now) (length-take-le c.args.self.now.tables.order.len c.args.self.now.tables.order.slots.now c.args.self.now.fits) c.args.self.now.sound c.args.self.now.laid c.args.self.now.linked c.args.number _ _ c.in-Some.ensures (λ _. 1)) (elim c.then-asset-ge8.either [ inl a ↦ inl a | inr b ↦ inr (omega (arith, b.1)) ]);
       after = refl;
     }

@@ -5,6 +5,6 @@ use Rattle.judging_balances.proofs.MovesGatherTransactionSlot.parts.Goals as goa
 
 pub returns-in-Cancel : goal.returns-in-Cancel
 returns-in-Cancel g c =
-    let f = amount_at (g.B.OfferBook.orders c.args.self.now.book.now).book.offers in
+    let f = amount_at (g.B.OfferBook.book c.args.self.now.book.now).offers in
     subst (λ a. c.brings-in-Cancel.result ∷ [] ≡ moves_by f c.args.t.source a) (sym c.in-Cancel.is)
     (ap (λ z. z ∷ []) (c.brings-in-Cancel.ensures ∙ ap (brings (slot c.args.t.source c.in-Cancel.sold)) c.amount.ensures))

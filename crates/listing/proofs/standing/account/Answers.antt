@@ -7,8 +7,8 @@ use Rattle.listing.proofs.standing.account.Goals as goal
 
 pub returns : goal.returns
 returns g c = λ a has is.
-    let st = (g.S.AccountStore.ledger c.args.replica.now.store).store in
-    let ok = store_parts st (g.S.AccountStore.ledger c.args.replica.now.store).sound in
+    let st = (g.S.AccountStore.store c.args.replica.now.store) in
+    let ok = store_parts st (g.met.S.AccountStore.sound c.args.replica.now.store) in
     let number = sym is in
     let floor : c.floor.result ≡ a.floor =
     c.floor.ensures ∙ ap (λ n. under name (λ b. b.floor) st.accounts (n ∷ [])) (sym is) ∙ all-has _ st.accounts a (under_each name (λ b. b.floor) st.accounts ok.up) has in

@@ -18,8 +18,8 @@ loop-asset-preserved g c =
 
 pub returns : goal.returns
 returns g c = λ a has is.
-    let st = (g.S.AccountStore.ledger c.args.replica.now.store).store in
-    let ok = store_parts st (g.S.AccountStore.ledger c.args.replica.now.store).sound in
+    let st = (g.S.AccountStore.store c.args.replica.now.store) in
+    let ok = store_parts st (g.met.S.AccountStore.sound c.args.replica.now.store) in
     let fit = account_parts st.top a (all-has _ st.accounts a ok.fit has) in
     let eight : length c.loop-asset.balances ≡ length a.balances = c.loop-asset.invariant.0 ∙ sym fit.eight in
     let own : (x : ℕ) → balance_at st c.args.number x ≡ get_or a.balances x 0 =

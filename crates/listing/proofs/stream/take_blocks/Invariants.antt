@@ -7,8 +7,8 @@ abbrev pub invariant-loop-rest : goal.invariant-loop-rest
 invariant-loop-rest g l =
     let start = l.initial.replica in
     let here = l.replica in
-    Going (state_of (g.S.AccountStore.ledger start.store).store (g.B.OfferBook.orders start.book).book start.numbers) l.bytes (vec_items l.initial.lines)
-    (state_of (g.S.AccountStore.ledger here.store).store (g.B.OfferBook.orders here.book).book here.numbers) l.rest (vec_items l.lines)
+    Going (state_of (g.S.AccountStore.store start.store) (g.B.OfferBook.book start.book) start.numbers) l.bytes (vec_items l.initial.lines)
+    (state_of (g.S.AccountStore.store here.store) (g.B.OfferBook.book here.book) here.numbers) l.rest (vec_items l.lines)
 
 abbrev pub decreases-loop-rest : goal.decreases-loop-rest
 decreases-loop-rest g l = length l.rest

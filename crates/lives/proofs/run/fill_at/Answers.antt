@@ -18,7 +18,7 @@ returns-in-Spent g c = λ gs.
 
 pub returns-in-Ok : goal.returns-in-Ok
 returns-in-Ok g c = λ steady gs.
-    let s = state_of (g.S.AccountStore.ledger c.args.replica.now.store).store (g.B.OfferBook.orders c.args.replica.now.book).book c.args.replica.now.numbers in
+    let s = state_of (g.S.AccountStore.store c.args.replica.now.store) (g.B.OfferBook.book c.args.replica.now.book) c.args.replica.now.numbers in
     let ss = vec_items c.args.held.now in
     let within : c.args.block < length ss = omega (arith, c.args.held.now.ok.0) in
     let held = held_at ss c.args.block c.index.result.now within c.index.ensures ∙ ap held_in c.in-Held.is in
@@ -26,7 +26,7 @@ returns-in-Ok g c = λ steady gs.
 
 pub returns-in-Err : goal.returns-in-Err
 returns-in-Err g c = λ steady gs.
-    let s = state_of (g.S.AccountStore.ledger c.args.replica.now.store).store (g.B.OfferBook.orders c.args.replica.now.book).book c.args.replica.now.numbers in
+    let s = state_of (g.S.AccountStore.store c.args.replica.now.store) (g.B.OfferBook.book c.args.replica.now.book) c.args.replica.now.numbers in
     let ss = vec_items c.args.held.now in
     let within : c.args.block < length ss = omega (arith, c.args.held.now.ok.0) in
     let held = held_at ss c.args.block c.index.result.now within c.index.ensures ∙ ap held_in c.in-Held.is in

@@ -23,7 +23,7 @@ returns-in-Err g c = λ st bk p q e h a.
     let i = c.loop-event.event-index in
     let within : i < length es = omega (arith, length-map c.args.events.now event_of, c.loop-event-test.true) in
     over_stop st bk es _ i _ _ (c.loop-event.invariant st bk p q e h a) _
-    (state_of (g.S.AccountStore.ledger c.step.new.replica.store).store (g.B.OfferBook.orders c.step.new.replica.book).book c.step.new.replica.numbers)
+    (state_of (g.S.AccountStore.store c.step.new.replica.store) (g.B.OfferBook.book c.step.new.replica.book) c.step.new.replica.numbers)
     (held_of (vec_items c.step.new.held)) c.in-Err.stop within (event_at c.args.events.now i _ c.loop-event-test.true) c.in-Err.ensures
 
 pub returns-in-Err-push : goal.returns-in-Err-push
@@ -39,7 +39,7 @@ loop-event-preserved g c = λ st bk p q e h a.
     let es = map event_of c.args.events.now in
     let i = c.loop-event.event-index in
     let within : i < length es = omega (arith, length-map c.args.events.now event_of, c.loop-event-test.true) in
-    let t = state_of (g.S.AccountStore.ledger c.step.new.replica.store).store (g.B.OfferBook.orders c.step.new.replica.book).book c.step.new.replica.numbers in
+    let t = state_of (g.S.AccountStore.store c.step.new.replica.store) (g.B.OfferBook.book c.step.new.replica.book) c.step.new.replica.numbers in
     let ks = held_of (vec_items c.step.new.held) in
     let more = come_more st bk p q (take i es) _ _ _ (c.loop-event.invariant st bk p q e h a) _ c.in-Ok.answer t ks c.in-Ok.ensures in
     subst₂ (λ x y. Come st bk x y t ks)

@@ -3,4 +3,4 @@ use Rattle.lives.proofs.run.live.Goals as goal
 
 pub returns : goal.returns
 returns g c =
-    ran _ _ _ _ _ (c.go_on-stop.ensures _ _ (g.S.AccountStore.ledger c.args.store).sound (g.B.OfferBook.orders c.args.book).sound c.new-replica.ensures c.new-held.ensures.items c.new-answers.ensures.items)
+    ran _ _ _ _ _ (c.go_on-stop.ensures _ _ (g.met.S.AccountStore.sound c.args.store) (g.met.B.OfferBook.sound c.args.book) c.new-replica.ensures c.new-held.ensures.items c.new-answers.ensures.items)

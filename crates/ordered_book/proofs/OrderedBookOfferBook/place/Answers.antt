@@ -9,7 +9,7 @@ returns-in-Ok c =
     let s = c.args.self.now in
     let at = c.in-Ok.ensures (ok s.table.len s.table.slots.now s.fits s.sound).up in
     record {
-      answer = ap Err c.refusal.ensures
+      answer = ap Err c.into.ensures
           ∙ place_stands (book_of s.table.len s.table.slots.now) c.args.key c.args.units
           (in_range s.table.len s.table.slots.now s.fits s.sound c.args.key _ (record { key = c.args.key; amount = 0 }) at).1;
       after = refl;
@@ -20,7 +20,7 @@ returns-then-len-capacity c =
     let s = c.args.self.now in
     let gap = c.in-Err.ensures (ok s.table.len s.table.slots.now s.fits s.sound).up in
     record {
-      answer = ap Err c.refusal-then-len-capacity.ensures
+      answer = ap Err c.into-then-len-capacity.ensures
           ∙ place_full (book_of s.table.len s.table.slots.now) c.args.key c.args.units
           (amount_none s.table.len s.table.slots.now s.fits s.sound c.args.key _ gap) (omega arith);
       after = refl;
@@ -31,7 +31,7 @@ returns-then-not-in_range c =
     let s = c.args.self.now in
     let gap = c.in-Err.ensures (ok s.table.len s.table.slots.now s.fits s.sound).up in
     record {
-      answer = ap Err c.refusal-then-not-in_range.ensures
+      answer = ap Err c.into-then-not-in_range.ensures
           ∙ place_out (book_of s.table.len s.table.slots.now) c.args.key c.args.units
           (amount_none s.table.len s.table.slots.now s.fits s.sound c.args.key _ gap) (omega arith) (sym c.in_range.ensures ∙ c.if-not-in_range.true);
       after = refl;

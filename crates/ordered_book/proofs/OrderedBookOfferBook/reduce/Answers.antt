@@ -11,7 +11,7 @@ returns-then-units-o c =
     let a = amount_found s.table.len s.table.slots.now s.fits s.sound c.args.key c.in-Some.i c.in-Some.o at c.in-Some.ensures.1 in
     let h = in_range s.table.len s.table.slots.now s.fits s.sound c.args.key c.in-Some.i c.in-Some.o at in
     record {
-      answer = ap Err c.refusal.ensures ∙ reduce_more (book_of s.table.len s.table.slots.now) c.args.key c.args.units h.1 (omega (arith, a));
+      answer = ap Err c.into.ensures ∙ reduce_more (book_of s.table.len s.table.slots.now) c.args.key c.args.units h.1 (omega (arith, a));
       after = refl;
     }
 

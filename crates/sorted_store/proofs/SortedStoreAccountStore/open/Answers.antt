@@ -15,14 +15,14 @@ invariant_of-self c =
 pub returns-in-Ok : goal.returns-in-Ok
 returns-in-Ok c =
     record {
-      answer = ap Err c.refusal-in-Ok.ensures ∙ open_stands (store_of c.args.self.now.table.len c.args.self.now.top c.args.self.now.table.slots.now) c.args.number c.if-number-eq0.false (omega arith) (one_at c.args.self.now.table.len c.args.self.now.top c.args.self.now.table.slots.now c.args.self.now.fits c.args.self.now.sound _ _ (c.in-Ok.ensures (ok c.args.self.now.table.len c.args.self.now.top c.args.self.now.table.slots.now c.args.self.now.fits c.args.self.now.sound).up) (fresh 0));
+      answer = ap Err c.into-in-Ok.ensures ∙ open_stands (store_of c.args.self.now.table.len c.args.self.now.top c.args.self.now.table.slots.now) c.args.number c.if-number-eq0.false (omega arith) (one_at c.args.self.now.table.len c.args.self.now.top c.args.self.now.table.slots.now c.args.self.now.fits c.args.self.now.sound _ _ (c.in-Ok.ensures (ok c.args.self.now.table.len c.args.self.now.top c.args.self.now.table.slots.now c.args.self.now.fits c.args.self.now.sound).up) (fresh 0));
       after = refl;
     }
 
 pub returns-then-len-capacity : goal.returns-then-len-capacity
 returns-then-len-capacity c =
     record {
-      answer = ap Err c.refusal-then-len-capacity.ensures ∙ open_full (store_of c.args.self.now.table.len c.args.self.now.top c.args.self.now.table.slots.now) c.args.number c.if-number-eq0.false (omega arith) (none_at c.args.self.now.table.len c.args.self.now.top c.args.self.now.table.slots.now c.args.self.now.fits c.args.self.now.sound _ _ (c.in-Err.ensures (ok c.args.self.now.table.len c.args.self.now.top c.args.self.now.table.slots.now c.args.self.now.fits c.args.self.now.sound).up) (λ _. 1)) (omega arith);
+      answer = ap Err c.into-then-len-capacity.ensures ∙ open_full (store_of c.args.self.now.table.len c.args.self.now.top c.args.self.now.table.slots.now) c.args.number c.if-number-eq0.false (omega arith) (none_at c.args.self.now.table.len c.args.self.now.top c.args.self.now.table.slots.now c.args.self.now.fits c.args.self.now.sound _ _ (c.in-Err.ensures (ok c.args.self.now.table.len c.args.self.now.top c.args.self.now.table.slots.now c.args.self.now.fits c.args.self.now.sound).up) (λ _. 1)) (omega arith);
       after = refl;
     }
 

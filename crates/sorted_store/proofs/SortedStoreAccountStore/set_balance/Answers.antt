@@ -9,7 +9,7 @@ pub returns-then-asset-ge8 : goal.returns-then-asset-ge8
 returns-then-asset-ge8 c =
     record {
       answer =
-          ap Err c.refusal.ensures
+          ap Err c.into.ensures
           ∙ balance_out (store_of c.args.self.now.table.len c.args.self.now.top c.args.self.now.table.slots.now) c.args.number c.args.asset c.args.value (one_at c.args.self.now.table.len c.args.self.now.top c.args.self.now.table.slots.now c.args.self.now.fits c.args.self.now.sound _ _ c.in-Some.ensures.0 (fresh 0)) (elim c.then-asset-ge8.either [ inl a ↦ inl a | inr b ↦ inr (omega (arith, b.1)) ]);
       after = refl;
     }

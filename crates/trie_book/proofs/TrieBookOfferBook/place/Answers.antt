@@ -9,17 +9,17 @@ use Rattle.trie_book.proofs.TrieBookOfferBook.place.Goals as goal
 pub returns-then-amount-gt0 : goal.returns-then-amount-gt0
 returns-then-amount-gt0 c =
     let t = c.args.self.now.trie in
-    record { answer = ap Err c.refusal.ensures ∙ place_stands (book_of t.capacity t.root) c.args.key c.args.units (omega (arith, c.amount.ensures)); after = refl }
+    record { answer = ap Err c.into.ensures ∙ place_stands (book_of t.capacity t.root) c.args.key c.args.units (omega (arith, c.amount.ensures)); after = refl }
 
 pub returns-then-count-capacity : goal.returns-then-count-capacity
 returns-then-count-capacity c =
     let t = c.args.self.now.trie in
-    record { answer = ap Err c.refusal-then-count-capacity.ensures ∙ place_full (book_of t.capacity t.root) c.args.key c.args.units (omega (arith, c.amount.ensures)) (omega arith); after = refl }
+    record { answer = ap Err c.into-then-count-capacity.ensures ∙ place_full (book_of t.capacity t.root) c.args.key c.args.units (omega (arith, c.amount.ensures)) (omega arith); after = refl }
 
 pub returns-then-not-in_range : goal.returns-then-not-in_range
 returns-then-not-in_range c =
     let t = c.args.self.now.trie in
-    record { answer = ap Err c.refusal-then-not-in_range.ensures ∙ place_out (book_of t.capacity t.root) c.args.key c.args.units (omega (arith, c.amount.ensures)) (omega arith) (sym c.in_range.ensures ∙ c.if-not-in_range.true); after = refl }
+    record { answer = ap Err c.into-then-not-in_range.ensures ∙ place_out (book_of t.capacity t.root) c.args.key c.args.units (omega (arith, c.amount.ensures)) (omega arith) (sym c.in_range.ensures ∙ c.if-not-in_range.true); after = refl }
 
 pub code-c-requires : goal.code-c-requires
 code-c-requires c =

@@ -6,7 +6,7 @@ use Rattle.replica.proofs.life.CheckedBlock.fill.Goals as goal
 
 pub returns : goal.returns
 returns g c = λ steady.
-    let s = state_of (g.S.AccountStore.ledger c.args.replica.now.store).store (g.B.OfferBook.orders c.args.replica.now.book).book c.args.replica.now.numbers in
+    let s = state_of (g.S.AccountStore.store c.args.replica.now.store) (g.B.OfferBook.book c.args.replica.now.book) c.args.replica.now.numbers in
     let b = block_of c.in_ok-block.block in
     let rules = c.in_ok-block.ensures in
     let p = passes s _ b rules in
