@@ -3,7 +3,7 @@
 #![tactic(auto)]
 
 ghost use Rattle.std.specs.Prelude.{◌≡◌, ℕ, ◌+◌, ◌*◌, ◌^◌, ◌<◌, ◌≤◌, List, [], ◌==◌, length, filter, Err, sum_by, nat_lt, slice_index};
-ghost use Rattle.exchange.specs.Trade.{volume_of, worth_for, price as priceIn};
+ghost use Rattle.exchange.specs.Trade.{volume_of, worth_for, price as price_in};
 ghost use Rattle.exchange.specs.Faults.{fault};
 ghost use Rattle.exchange.specs.Faults.Cause.{uncleared};
 ghost use Rattle.judging_rules.specs.Rows.{Row, scene, no_store, no_book, deal};
@@ -81,7 +81,7 @@ struct Clearing<'a> {
 }
 
 impl<'a> Rule<Asset> for Clearing<'a> {
-    ghost broken = { λ r x. nat_lt (volume_of (deal r.prices.now r.volumes.now []) x.number * priceIn (deal r.prices.now r.volumes.now []) x.number) (worth_for (deal r.prices.now r.volumes.now []) x.number) };
+    ghost broken = { λ r x. nat_lt (volume_of (deal r.prices.now r.volumes.now []) x.number * price_in (deal r.prices.now r.volumes.now []) x.number) (worth_for (deal r.prices.now r.volumes.now []) x.number) };
 
     fn breaks(&self, x: Asset) -> bool {
         worth_sold(self.prices, self.volumes, x.number)

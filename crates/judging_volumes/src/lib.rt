@@ -9,7 +9,7 @@ ghost use Rattle.terms.specs.declared.Key.{Key};
 ghost use Rattle.terms.specs.Order.{Rising};
 ghost use Rattle.terms.specs.Holdings.{amount_at};
 ghost use Rattle.blocks.specs.Readable.{pair};
-ghost use Rattle.exchange.specs.Trade.{cancels_of, eligible as eligibleAt, supply};
+ghost use Rattle.exchange.specs.Trade.{cancels_of, eligible as eligible_at, supply};
 ghost use Rattle.exchange.specs.Faults.{fault};
 ghost use Rattle.exchange.specs.Faults.Cause.{excess_volume};
 ghost use Rattle.tally.specs.Least.{spot};
@@ -24,7 +24,7 @@ use terms::{Action, Cause, Fault, Key, Transaction, Volume};
 
 // The prices meet the key's limit.
 pub fn eligible(prices: &[u32; 8], key: Key) -> bool
-    ensures { result ≡ eligibleAt (deal prices.now [] []) key }
+    ensures { result ≡ eligible_at (deal prices.now [] []) key }
 {
     let wanted = key.limit as u128 * price(prices, key.bought) as u128;
     wanted <= price(prices, key.sold) as u128 * 65536
@@ -48,7 +48,7 @@ fn highest_limit(prices: &[u32; 8], sold: u8, bought: u8) -> u32
 
 // An amount, if the key is eligible, or 0.
 fn eligible_amount(prices: &[u32; 8], key: Key, amount: u64) -> u64
-    ensures { result ≡ (if eligibleAt (deal prices.now [] []) key then amount else 0) }
+    ensures { result ≡ (if eligible_at (deal prices.now [] []) key then amount else 0) }
 {
     if eligible(prices, key) { amount } else { 0 }
 }
