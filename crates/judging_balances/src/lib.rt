@@ -8,6 +8,7 @@ ghost use Rattle.std.specs.List.{flat_map};
 ghost use Rattle.terms.specs.Holdings.{balance_at, amount_at};
 ghost use Rattle.exchange.specs.Faults.{fault};
 ghost use Rattle.exchange.specs.Faults.Cause.{overdrawn};
+ghost use Rattle.ordered.specs.Orders.{in_turn_is};
 ghost use Rattle.tally.specs.Tally.{roomy, Tallied};
 ghost use Rattle.judging_rules.specs.Rows.{Row, scene, bundle};
 ghost use Rattle.judging_balances.specs.Moves.{moves, slot_words};
@@ -19,7 +20,7 @@ use tally::{Effect, Gather, Net, Place, Placed, Rule, report, sums};
 use terms::{Action, Cause, Fault, Key, Transaction};
 
 // An account's balance of an asset.
-#[derive(Clone, Copy)]
+#[derive(Clone, Copy, PartialEq, Eq, PartialOrd, Ord, Default)]
 pub struct Slot {
     pub account: u32,
     pub asset: u8,
@@ -28,9 +29,7 @@ pub struct Slot {
 impl SortKey for Slot {
     ghost rank = { slot_words };
 
-    fn precedes(self, other: Slot) -> bool {
-        self.account < other.account || (self.account == other.account && self.asset < other.asset)
-    }
+    ghost follows = { λ a b. in_turn_is (slot_words a) (slot_words b) };
 }
 
 impl Placed for Slot {

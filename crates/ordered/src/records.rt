@@ -2,6 +2,7 @@
 // their key and name the amount that they sell. Assumes nothing.
 ghost use Rattle.std.specs.Prelude.{◌≡◌, List, [], ◌∷◌, if◌then◌else◌, nat_eq, slice_index};
 ghost use Rattle.terms.specs.Order.{words};
+ghost use Rattle.ordered.specs.Orders.{in_turn_is};
 
 use crate::sums::Amounts;
 use crate::table::{Keyed, SortKey};
@@ -11,9 +12,7 @@ use terms::{Account, Key, Offer};
 impl SortKey for u32 {
     ghost rank = { λ n. n ∷ [] };
 
-    fn precedes(self, other: u32) -> bool {
-        self < other
-    }
+    ghost follows = { λ m n. in_turn_is (m ∷ []) (n ∷ []) };
 }
 
 // A number on its own is a record too, whose key it is.
@@ -51,21 +50,9 @@ impl Amounts<u8> for Account {
 }
 
 impl SortKey for Key {
-    ghost rank = { λ k. words k };
+    ghost rank = { words };
 
-    fn precedes(self, other: Key) -> bool {
-        if self.sold != other.sold {
-            self.sold < other.sold
-        } else if self.bought != other.bought {
-            self.bought < other.bought
-        } else if self.limit != other.limit {
-            self.limit < other.limit
-        } else if self.account != other.account {
-            self.account < other.account
-        } else {
-            self.sequence < other.sequence
-        }
-    }
+    ghost follows = { λ j k. in_turn_is (words j) (words k) };
 }
 
 impl Keyed for Offer {
