@@ -29,6 +29,30 @@ pub struct Effect<K> {
     pub minus: u64,
 }
 
+impl<K> Effect<K> {
+    // So much comes in.
+    pub fn comes(key: K, amount: u64) -> Self
+        ensures { result ≡ record { key = key; plus = amount; minus = 0 } }
+    {
+        Effect {
+            key,
+            plus: amount,
+            minus: 0,
+        }
+    }
+
+    // So much goes out.
+    pub fn goes(key: K, amount: u64) -> Self
+        ensures { result ≡ record { key = key; plus = 0; minus = amount } }
+    {
+        Effect {
+            key,
+            plus: 0,
+            minus: amount,
+        }
+    }
+}
+
 // What comes in and goes out under a key by all of them.
 #[derive(Clone, Copy, Default)]
 pub struct Net<K> {
