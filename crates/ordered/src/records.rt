@@ -1,12 +1,12 @@
 // The exchange's records as tables hold them: accounts go by their number and name their balances, offers go by
-// their key and name the amount that they sell. Assumes nothing.
+// their key and name the amount that they sell, grants name their balances. Assumes nothing.
 ghost use Rattle.std.specs.Prelude.{◌≡◌, List, [], ◌∷◌, if◌then◌else◌, nat_eq, slice_index};
 ghost use Rattle.terms.specs.Order.{words};
 ghost use Rattle.ordered.specs.Orders.{in_turn_is};
 
 use crate::sums::Amounts;
 use crate::table::{Keyed, SortKey};
-use terms::{Account, Key, Offer};
+use terms::{Account, Grant, Key, Offer};
 
 // A number is compared as it is.
 impl SortKey for u32 {
@@ -41,11 +41,16 @@ impl Amounts<u8> for Account {
     ghost amount = { λ a x. slice_index a.balances x };
 
     fn amount(&self, by: u8) -> u64 {
-        if by < 8 {
-            self.balances[by as usize]
-        } else {
-            0
-        }
+        self.balances.get(by as usize).copied().unwrap_or(0)
+    }
+}
+
+// What a grant gives of an asset: 0 for an asset above 7.
+impl Amounts<u8> for Grant {
+    ghost amount = { λ g x. slice_index g.balances x };
+
+    fn amount(&self, by: u8) -> u64 {
+        self.balances.get(by as usize).copied().unwrap_or(0)
     }
 }
 
