@@ -1,3 +1,3 @@
-pub mod Rows
+pub mod Unequal
 pub mod Sorted
 pub mod Alike

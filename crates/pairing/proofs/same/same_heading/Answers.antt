@@ -1,7 +1,7 @@
 use Rattle.std.proofs.Common.{not, sym, ap, ◌∙◌, true≢false}
 use Rattle.std.proofs.lemmas.Bool.{both_ways}
 use Rattle.std.proofs.lemmas.Bool.Decides.{Decides-eqb}
-use Rattle.pairing.proofs.Rows.{not_matches}
+use Rattle.pairing.proofs.Unequal.{not_matches}
 use Rattle.pairing.proofs.same.same_heading.Goals as goal
 
 pub returns-then-ne : goal.returns-then-ne
