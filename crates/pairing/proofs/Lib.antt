@@ -1,3 +1,2 @@
-pub mod Unequal
 pub mod Sorted
 pub mod Alike

@@ -8,29 +8,16 @@ ghost use Rattle.pairing.specs.Headings.{SameHeading};
 use crate::order::same_in_any_order;
 use arrayvec::ArrayVec;
 use blocks::{DecodedBlock, DecodedFounding, read_block, read_founding};
-use terms::{Grant, Transaction, Volume};
-
-// Whether the volumes are the same, one by one.
-fn same_volumes(first: &[Volume], second: &[Volume]) -> bool
-    ensures { Decides result (first.now ≡ second.now) }
-{
-    first == second
-}
+use terms::{Grant, Transaction};
 
 // Whether all but the transactions is the same.
 fn same_heading(first: &DecodedBlock, second: &DecodedBlock) -> bool
     ensures { Decides result (SameHeading (block_of first.now) (block_of second.now)) }
 {
-    if first.height() != second.height() {
-        return false;
-    }
-    if first.parent() != second.parent() {
-        return false;
-    }
-    if first.prices() != second.prices() {
-        return false;
-    }
-    same_volumes(first.volumes(), second.volumes())
+    first.height() == second.height()
+        && first.parent() == second.parent()
+        && first.prices() == second.prices()
+        && first.volumes() == second.volumes()
 }
 
 // Whether one block is the other with its transactions in another order.

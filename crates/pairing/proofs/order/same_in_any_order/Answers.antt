@@ -22,5 +22,5 @@ returns g c =
     let d : Decides c.eq.result (us ≡ vs) = slice_eq-Decides same us vs c.eq.result c.eq.ensures in (
       λ e. IsPermutation-trans xs vs ys (subst (λ l. IsPermutation xs l) (d.0 e) p) (IsPermutation-sym ys vs q),
       λ s. d.1 (rearranged_equal cmp g.met.T.Ord.total exact us vs c.sort_unstable.ensures.sorted c.sort_unstable-2.ensures.sorted
-      (IsPermutation-trans us xs vs (IsPermutation-sym xs us p) (IsPermutation-trans xs ys vs s q))),
+          (IsPermutation-trans us xs vs (IsPermutation-sym xs us p) (IsPermutation-trans xs ys vs s q))),
     )
