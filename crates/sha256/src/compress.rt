@@ -137,30 +137,21 @@ fn extend(w: &mut [u32; 64], n: usize)
     }
 }
 
-// The word in the four bytes at a place.
-fn word(bytes: &[u8], at: usize) -> u32
-    requires { at + 4 ≤ length bytes.now }
-    ensures { result ≡ field 4 bytes.now at }
-{
-    u32::from_be_bytes([bytes[at], bytes[at + 1], bytes[at + 2], bytes[at + 3]])
-}
-
 // The words of a block, with room for the rest of the message schedule.
-fn load(block: &[u8]) -> [u32; 64]
-    requires { length block.now ≡ 64 }
+fn load(block: &[u8; 64]) -> [u32; 64]
     ensures { take 16 result ≡ words_of 16 block.now }
 {
+    let (quads, _) = block.as_chunks::<4>();
     let mut w = [0; 64];
-    for t in 0..16 {
-        w[t] = word(block, 4 * t);
+    for (t, quad) in quads.iter().enumerate() {
+        w[t] = u32::from_be_bytes(*quad);
     }
     w
 }
 
 // The 64 rounds over a block. The message schedule is written as they go, eight words at a time: so the processor can work
 // at both at once.
-fn rounds(start: State, block: &[u8]) -> State
-    requires { length block.now ≡ 64 }
+fn rounds(start: State, block: &[u8; 64]) -> State
     ensures { result ≡ rounds_of 64 (schedule 48 (words_of 16 block.now)) start }
 {
     let mut w = load(block);
@@ -207,8 +198,7 @@ impl State {
     }
 
     // The hash value after one block more.
-    pub(crate) fn compress(self, block: &[u8]) -> State
-        requires { length block.now ≡ 64 }
+    pub(crate) fn compress(self, block: &[u8; 64]) -> State
         ensures { result ≡ compress_of self block.now }
     {
         add(self, rounds(self, block))
