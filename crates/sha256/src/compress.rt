@@ -112,14 +112,11 @@ fn eight(s: State, w: &[u32; 64], t: usize) -> State
     ensures { (start : State) (all : List ℕ) → take (t + 8) w.now ≡ take (t + 8) all
         → s ≡ rounds_of t all start → result ≡ rounds_of (t + 8) all start }
 {
-    let s1 = step(s, w, t);
-    let s2 = step(s1, w, t + 1);
-    let s3 = step(s2, w, t + 2);
-    let s4 = step(s3, w, t + 3);
-    let s5 = step(s4, w, t + 4);
-    let s6 = step(s5, w, t + 5);
-    let s7 = step(s6, w, t + 6);
-    step(s7, w, t + 7)
+    let mut s = s;
+    for i in 0..8 {
+        s = step(s, w, t + i);
+    }
+    s
 }
 
 // Eight words more of a message schedule of n + 16 words.
