@@ -2,7 +2,7 @@
 // hash value and a block of 64 bytes. Assumes nothing beyond each function's `requires`.
 ghost use Rattle.std.specs.Prelude.{◌≡◌, ℕ, ◌+◌, ◌<◌, ◌≤◌, List, length, take, slice_index};
 ghost use Rattle.sha256.specs.Functions.{ch, maj, big_sigma0, big_sigma1, small_sigma0, small_sigma1, constant_at};
-ghost use Rattle.terms.specs.Bytes.{field};
+ghost use Rattle.terms.specs.Bytes.{bytes_of};
 ghost use Rattle.sha256.specs.Padding.{words_of, initial};
 ghost use Rattle.sha256.specs.Compression.{schedule, round_of, rounds_of, sum_of, compress_of};
 ghost use Rattle.sha256.specs.Digest.{digest_of};
@@ -208,10 +208,11 @@ impl State {
         let words = [
             self.a, self.b, self.c, self.d, self.e, self.f, self.g, self.h,
         ];
-        let mut bytes = [0; 32];
-        for i in 0..8 {
-            bytes[4 * i..4 * i + 4].copy_from_slice(&words[i].to_be_bytes());
-        }
-        bytes
+        let quads = words.map(
+            |word: u32| -> [u8; 4]
+                ensures { result ≡ bytes_of 4 word }
+            { word.to_be_bytes() },
+        );
+        *quads.as_flattened().first_chunk().unwrap()
     }
 }
