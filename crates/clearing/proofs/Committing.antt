@@ -1,7 +1,7 @@
 -- What is left of a cleared block is what a commit gives; and what clearing starts from. Assumes nothing.
-use Rattle.std.proofs.Common.{arith, ◌<◌, ◌≡◌, ℕ, true, false, eqb, leb, List, [], ◌∷◌, length, refl, ap, ◌∙◌, subst}
+use Rattle.std.proofs.Common.{arith, ◌<◌, ◌≡◌, ℕ, true, eqb, leb, List, [], ◌∷◌, length, refl, ap, ◌∙◌, subst}
 use Rattle.std.specs.List.{flat_map}
-use Rattle.std.proofs.lemmas.Bool.{and_parts, and_from, both_ways, leb-true}
+use Rattle.std.proofs.lemmas.Bool.{and_parts, leb-true}
 use Rattle.std.proofs.ByRecursion.{All-weaker}
 use Rattle.terms.specs.declared.Transaction.{Transaction}
 use Rattle.terms.specs.Ranges.{every, is_word, is_price, fit_volume, fit_transaction}

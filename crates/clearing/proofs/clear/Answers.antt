@@ -8,7 +8,7 @@ use Rattle.clearing.proofs.clear.Goals as goal
 
 pub returns-in_err-entries : goal.returns-in_err-entries
 returns-in_err-entries g c = λ s p q r so clean.
-    absurd (few (block_of c.args.block.now) _ c.args.block.now.ranges c.transactions.ensures c.in_err-entries.ensures)
+    absurd (few (block_of c.args.block.now) _ c.args.block.now.ranges c.transactions.ensures c.in_err-entries.ensures.0)
 
 pub returns : goal.returns
 returns g c = λ s p q r so clean.
