@@ -37,20 +37,27 @@ impl Keyed for Account {
 }
 
 // The balance of an asset: 0 for an asset above 7.
+fn balance(balances: &[u64; 8], asset: u8) -> u64
+    ensures { result ≡ slice_index balances.now asset }
+{
+    balances.get(asset as usize).copied().unwrap_or(0)
+}
+
+// An account names its balances.
 impl Amounts<u8> for Account {
     ghost amount = { λ a x. slice_index a.balances x };
 
     fn amount(&self, by: u8) -> u64 {
-        self.balances.get(by as usize).copied().unwrap_or(0)
+        balance(&self.balances, by)
     }
 }
 
-// What a grant gives of an asset: 0 for an asset above 7.
+// A grant names the balances that it gives.
 impl Amounts<u8> for Grant {
     ghost amount = { λ g x. slice_index g.balances x };
 
     fn amount(&self, by: u8) -> u64 {
-        self.balances.get(by as usize).copied().unwrap_or(0)
+        balance(&self.balances, by)
     }
 }
 
