@@ -34,7 +34,8 @@ def functions():
             if not re.match(r'\s*(pub(\(\w+\))? )?(extern "C" )?fn \w+', line): continue
             indent = len(line) - len(line.lstrip())
             end = next((j for j in range(i, len(lines)) if lines[j].startswith(' ' * indent + '}')), None)
-            if end is None: continue
+            if end is None or any(l.endswith(';') and not l.startswith(' ' * (indent + 8)) for l in lines[i:end] if re.match(r'\s*(ensures|requires)', l)): continue
+            if line.rstrip().endswith(';') or not any(l.rstrip().endswith('{') for l in lines[i:end]): continue
             text = [l for l in lines[i:end] if not re.match(r'\s*(//|ensures|requires|→)', l)]
             if len(text) < 7: continue
             yield path, re.search(r'fn (\w+)', line).group(1), re.findall(r'\w+|[^\s\w]', '\n'.join(text))
