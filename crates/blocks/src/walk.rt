@@ -5,7 +5,7 @@ ghost use Rattle.blocks.specs.Decoded.{block_of, grants_of};
 
 use crate::decoded::{DecodedBlock, DecodedFounding};
 use crate::drafted::Draft;
-use crate::stage::{Stage, step};
+use crate::stage::{Stage, next};
 use arrayvec::ArrayVec;
 use commands::{Command, eight_balances};
 use terms::{Cause, Fault, Grant};
@@ -21,21 +21,14 @@ pub fn read_block(bytes: &[u8]) -> Result<DecodedBlock, Fault>
     let mut draft = Draft::new();
     let mut stage = Stage::Start;
     let mut at = 0;
-    while at < bytes.len() {
-        let reading = step(bytes, at, stage)?;
-        if let Command::End = reading.command {
-            if reading.next < bytes.len() {
-                return Err(Cause::BytesAfterEnd.at_byte(reading.next));
-            }
-            return Ok(DecodedBlock { parts: draft });
-        }
+    while let Some(reading) = next(bytes, at, stage)? {
         draft
             .add(reading.command)
             .map_err(|cause| cause.at_byte(at))?;
         stage = Stage::after(reading.command);
         at = reading.next;
     }
-    Err(Cause::Unfinished.at_byte(at))
+    Ok(DecodedBlock { parts: draft })
 }
 
 // The founding that these bytes say; or a fault, looked for as in a block.
@@ -47,14 +40,7 @@ pub fn read_founding(bytes: &[u8]) -> Result<DecodedFounding, Fault>
     }
     let mut grants = ArrayVec::new();
     let mut at = 0;
-    while at < bytes.len() {
-        let reading = step(bytes, at, Stage::Grants)?;
-        if let Command::End = reading.command {
-            if reading.next < bytes.len() {
-                return Err(Cause::BytesAfterEnd.at_byte(reading.next));
-            }
-            return Ok(DecodedFounding { grants });
-        }
+    while let Some(reading) = next(bytes, at, Stage::Grants)? {
         let Command::Found { account, balances } = reading.command else {
             return unreachable();
         };
@@ -64,5 +50,5 @@ pub fn read_founding(bytes: &[u8]) -> Result<DecodedFounding, Fault>
         });
         at = reading.next;
     }
-    Err(Cause::Unfinished.at_byte(at))
+    Ok(DecodedFounding { grants })
 }
