@@ -10,12 +10,15 @@ use arrayvec::ArrayVec;
 use commands::{Command, eight_balances};
 use terms::{Cause, Fault, Grant};
 
+// The most bytes of a block or a founding.
+const LONGEST: usize = 40_000;
+
 // The block that these bytes say; or fault 1, more than 40,000 bytes; else the fault of the leftmost command, which at one
 // command is looked for in the order 3, 2, 4, 5, 6; or 7, bytes after the end.
 pub fn read_block(bytes: &[u8]) -> Result<DecodedBlock, Fault>
     ensures { MatchResult result (λ b. Readable bytes.now (block_of b)) (Refused is_begin bytes.now) }
 {
-    if bytes.len() > 40_000 {
+    if bytes.len() > LONGEST {
         return Err(Cause::TooManyBytes.into());
     }
     let mut draft = Draft::new();
@@ -35,7 +38,7 @@ pub fn read_block(bytes: &[u8]) -> Result<DecodedBlock, Fault>
 pub fn read_founding(bytes: &[u8]) -> Result<DecodedFounding, Fault>
     ensures { MatchResult result (λ f. Founds bytes.now (grants_of f)) (Refused is_grant bytes.now) }
 {
-    if bytes.len() > 40_000 {
+    if bytes.len() > LONGEST {
         return Err(Cause::TooManyBytes.into());
     }
     let mut grants = ArrayVec::new();
