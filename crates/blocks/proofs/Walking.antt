@@ -1,5 +1,5 @@
 -- The walk over the commands of a block: what it keeps, what a further command adds, and where it ends. Assumes nothing.
-use Rattle.std.proofs.Common.{◌≡◌, ℕ, ◌+◌, ◌*◌, ◌<◌, ◌≤◌, Bool, true, false, cond, not, ◌&&◌, ltb, leb, ◌⊎◌, List, [], ◌∷◌, ◌++◌, length, take, sym, refl, ap, ◌∙◌, subst, inl, inr, arith, Bor}
+use Rattle.std.proofs.Common.{◌≡◌, ℕ, ◌+◌, ◌*◌, ◌<◌, ◌≤◌, Bool, true, false, cond, not, ◌&&◌, ltb, ◌⊎◌, List, [], ◌∷◌, ◌++◌, length, take, sym, refl, ap, ◌∙◌, subst, inl, inr, arith, Bor, Some, None, Ok, Err}
 use Rattle.std.specs.List.{flat_map}
 use Rattle.std.proofs.lemmas.List.{length-append, length_push, take_all}
 use Rattle.std.proofs.ByRecursion.{All-push, has_push}
@@ -17,7 +17,8 @@ use Rattle.blocks.specs.declared.stage.Stage.TheVariants.{Start, Price, FirstVol
 use Rattle.commands.specs.Format.{Cmd, begin, price, volume, transaction, found, end, got, refused, command_at, width_at, lettered, whole, fit}
 use Rattle.blocks.specs.Readable.{Good, Stand, after, follows, Unended, Flaw, number, Flawed, Stops, is_begin, is_price_of, is_volume_above, is_grant, transactions, grants, heights, parents, Readable, Founds}
 use Rattle.blocks.specs.Readable.Flaw.{missing, unknown, misplaced, unfit, excess, trailing}
-use Rattle.blocks.specs.Stages.{admits, afterwards, stepped, taken}
+use Rattle.commands.specs.declared.command.Reading.{Reading}
+use Rattle.blocks.specs.Stages.{admits, afterwards, stepped, taken, Next}
 use Rattle.blocks.specs.Drafts.{added, spoken}
 use Rattle.commands.proofs.Cuts.{stand_push, unended_push, whole_moves, wide, width_is, never}
 use Rattle.blocks.proofs.Steps.{joined_push, turn_push, after_push}
@@ -68,7 +69,7 @@ module _ (bs : List ℕ) (at : ℕ) (may : Cmd → Bool) where
   outer_got x c m n false true e = absurd (let z : ◌≡◌ {A = ℕ} 0 1 = cc in omega arith)
   outer_got x c m n false false e = absurd (let z : ◌≡◌ {A = ℕ} 0 1 = cc in omega arith)
 
-  pub step_took : (c : Cmd) (n : ℕ) → got c n ≡ stepped may bs at → Took bs at may c n
+  step_took : (c : Cmd) (n : ℕ) → got c n ≡ stepped may bs at → Took bs at may c n
   step_took c n e =
       let o = outer_got (command_at bs at) c (at + width_at bs at) n (whole bs at) (ltb at (length bs) && not (lettered bs at)) e in
       record {
@@ -121,7 +122,7 @@ module _ (bs : List ℕ) (at : ℕ) (may : Cmd → Bool) where
         gone n true x = inr refl
         gone n false x = inl (grind (arith, nat_tests))
 
-    pub step_halts : refused f.number f.first f.second ≡ stepped may bs at → Halts bs at may f
+    step_halts : refused f.number f.first f.second ≡ stepped may bs at → Halts bs at may f
     step_halts e = outer_halts (whole bs at) (ltb at (length bs) && not (lettered bs at)) refl refl e
 
 -- How far a walk has come: good commands, none of them the end, and what may follow them.
@@ -166,7 +167,7 @@ module _ (opens : Cmd → Bool) (bs : List ℕ) (cs : List Cmd) (at : ℕ) (g : 
   good_end n t = good_more end n t (omega (arith, w.good.few))
 
   -- a step that stops is the leftmost fault
-  pub stops_step : (f : Fault) → Halts bs at (admits g) f → Stops opens bs f
+  stops_step : (f : Fault) → Halts bs at (admits g) f → Stops opens bs f
   stops_step f h =
       record {
         commands = cs;
@@ -198,7 +199,7 @@ module _ (opens : Cmd → Bool) (bs : List ℕ) (cs : List Cmd) (at : ℕ) (g : 
       }
 
   -- bytes after the end
-  pub stops_trailing : (n : ℕ) → Took bs at (admits g) end n → n < length bs
+  stops_trailing : (n : ℕ) → Took bs at (admits g) end n → n < length bs
       → Stops opens bs (record { number = 7; first = n; second = 0 })
   stops_trailing n t l =
       record {
@@ -210,20 +211,14 @@ module _ (opens : Cmd → Bool) (bs : List ℕ) (cs : List Cmd) (at : ℕ) (g : 
         second = refl;
       }
 
-  -- no bytes left
-  pub stops_missing : length bs ≤ at → Stops opens bs (record { number = 2; first = at; second = 0 })
-  stops_missing l =
-      record {
-        commands = cs;
-        good = w.good;
-        flaw = missing;
-        numbered = refl;
-        flawed = (w.unended, broken (length bs) (ltb 0 (width_at bs at)) (leb (at + width_at bs at) (length bs)) l, inl l);
-        second = refl;
-      }
-    where
-      broken : (n : ℕ) (x y : Bool) → n ≤ at → ((ltb at n && x) && y) ≡ false
-      broken n x y h = grind (arith, nat_tests)
+  -- a walk that stops at a place names the leftmost fault
+  pub next_stops : (f : Fault) → Next (admits g) bs at (Err f) → Stops opens bs f
+  next_stops f (inl e) = stops_step f (step_halts bs at (admits g) f e)
+  next_stops f (inr e) = subst (Stops opens bs) (sym e.3) (stops_trailing e.0 (step_took bs at (admits g) end e.0 e.1) e.2)
+
+-- a command that a walk finds
+pub next_took : (bs : List ℕ) (at : ℕ) (may : Cmd → Bool) (r : Reading) → Next may bs at (Ok (Some r)) → Took bs at may (shown r.command) r.next
+next_took bs at may r e = step_took bs at may (shown r.command) r.next e.0
 
 -- the end, with no bytes after it
 pub ends_there : (bs : List ℕ) (at n : ℕ) (g : Stage) → Took bs at (admits g) end n → length bs ≤ n → n ≡ length bs
@@ -247,8 +242,11 @@ module _ (bs : List ℕ) (cs : List Cmd) (at : ℕ) (g : Stage) (d : Draft) (w :
         says = says_more d cs g c w.says t.admitted t.ranged ne r;
       }
 
-  pub finish : (n : ℕ) → Took bs at (admits g) end n → length bs ≤ n → length bs ≤ 40000 → Readable bs (spoken d)
-  finish n t l k =
+  pub finish : Next (admits g) bs at (Ok None) → length bs ≤ 40000 → Readable bs (spoken d)
+  finish e k =
+      let n = e.0 in
+      let t = step_took bs at (admits g) end n e.1 in
+      let l = e.2 in
       let h = complete g w.says.proper t.admitted w.says.begun in
       record {
         short = k;
@@ -298,8 +296,11 @@ module _ (bs : List ℕ) (cs : List Cmd) (at : ℕ) (gs : List Grant) (w : Gathe
         room = omega (arith, length_push gs g, r.1);
       }
 
-  pub founds : (n : ℕ) → Took bs at (admits Grants) end n → length bs ≤ n → length bs ≤ 40000 → Founds bs gs
-  founds n t l h =
+  pub founds : Next (admits Grants) bs at (Ok None) → length bs ≤ 40000 → Founds bs gs
+  founds e h =
+      let n = e.0 in
+      let t = step_took bs at (admits Grants) end n e.1 in
+      let l = e.2 in
       record {
         short = h;
         commands = cs;
@@ -308,7 +309,7 @@ module _ (bs : List ℕ) (cs : List Cmd) (at : ℕ) (gs : List Grant) (w : Gathe
       }
 
 -- a command that may come among grants, other than the end, is a grant
-pub grant_only : (c : Command) → admits Grants (shown c) ≡ true → (c ≡ code.End → ⊥) → ((a : ℕ) (b : Bor (List ℕ)) → c ≡ code.Found a b → ⊥) → ⊥
+pub grant_only : (c : Command) → admits Grants (shown c) ≡ true → (shown c ≡ end → ⊥) → ((a : ℕ) (b : Bor (List ℕ)) → c ≡ code.Found a b → ⊥) → ⊥
 grant_only (code.Begin h p) m e n = false≢true m
 grant_only (code.Price x p) m e n = false≢true m
 grant_only (code.Volume x y a) m e n = false≢true m

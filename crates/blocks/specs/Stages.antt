@@ -1,7 +1,10 @@
 -- How a walk over commands keeps what may come next. Assumes nothing.
-use Rattle.std.specs.Prelude.{ℕ, ◌+◌, Bool, cond, List, [], ◌∷◌, nat_lt}
+use Rattle.std.specs.Prelude.{◌≡◌, ℕ, ◌+◌, ◌<◌, ◌≤◌, Bool, cond, ◌⊎◌, List, [], ◌∷◌, length, Option, Some, None, Result, Ok, Err, nat_lt}
+use Rattle.terms.specs.declared.Fault.{Fault}
 use Rattle.blocks.specs.declared.stage.Stage.{Stage}
 use Rattle.blocks.specs.declared.stage.Stage.TheVariants.{Start, Price, FirstVolume, VolumeAbove, Transactions, Grants}
+use Rattle.commands.specs.declared.command.Reading.{Reading}
+use Rattle.commands.specs.Shown.{shown}
 use Rattle.commands.specs.Format.{Cmd, begin, price, volume, transaction, found, end, Outcome, got, refused, cut, fit}
 use Rattle.blocks.specs.Readable.{is_begin, is_price_of, is_volume_above, is_transaction, is_grant}
 
@@ -31,3 +34,11 @@ taken may at (refused n i j) = refused n i j
 -- one step of a walk at a place
 abbrev pub stepped : (Cmd → Bool) → List ℕ → ℕ → Outcome
 stepped may bs at = taken may at (cut bs at)
+
+-- what a walk finds at a place: a command other than the end, or the end of all bytes; or the fault of a step, or 7 behind an end
+abbrev pub Next : (Cmd → Bool) → List ℕ → ℕ → Result (Option Reading) Fault → Type 0
+Next may bs at (Ok (Some r)) = (got (shown r.command) r.next ≡ stepped may bs at) × (shown r.command ≡ end → ⊥)
+Next may bs at (Ok None) = (n : ℕ) × (got end n ≡ stepped may bs at) × (length bs ≤ n)
+Next may bs at (Err f) =
+    (refused f.number f.first f.second ≡ stepped may bs at)
+    ⊎ ((n : ℕ) × (got end n ≡ stepped may bs at) × (n < length bs) × (f ≡ record { number = 7; first = n; second = 0 }))

@@ -3,7 +3,7 @@ ghost use Rattle.std.specs.Prelude.{◌≡◌, length};
 ghost use Rattle.commands.specs.Format.{Cmd, end};
 ghost use Rattle.blocks.specs.Readable.{follows};
 ghost use Rattle.commands.specs.Shown.{shown, told};
-ghost use Rattle.blocks.specs.Stages.{admits, afterwards, stepped};
+ghost use Rattle.blocks.specs.Stages.{admits, afterwards, stepped, Next};
 
 use commands::{Command, Reading, in_range, parse};
 use terms::{Cause, Fault};
@@ -70,7 +70,7 @@ impl Stage {
 }
 
 // The command at a place, whole, in turn and in range, and the place after it; or fault 3, 2, 4 or 5, looked for in this order.
-pub(crate) fn step<'a>(bytes: &'a [u8], at: usize, stage: Stage) -> Result<Reading<'a>, Fault>
+fn step<'a>(bytes: &'a [u8], at: usize, stage: Stage) -> Result<Reading<'a>, Fault>
     ensures { told result ≡ stepped (admits stage) bytes.now at }
 {
     let reading = parse(bytes, at)?;
@@ -81,4 +81,23 @@ pub(crate) fn step<'a>(bytes: &'a [u8], at: usize, stage: Stage) -> Result<Readi
         return Err(Cause::OutOfRange.at_byte(at));
     }
     Ok(reading)
+}
+
+// The command that a walk finds at a place, and the place after it; none where that is the end, and all bytes end with it.
+// A fault of the command, or 7, bytes after the end.
+pub(crate) fn next<'a>(
+    bytes: &'a [u8],
+    at: usize,
+    stage: Stage,
+) -> Result<Option<Reading<'a>>, Fault>
+    ensures { Next (admits stage) bytes.now at result }
+{
+    let reading = step(bytes, at, stage)?;
+    if let Command::End = reading.command {
+        if reading.next < bytes.len() {
+            return Err(Cause::BytesAfterEnd.at_byte(reading.next));
+        }
+        return Ok(None);
+    }
+    Ok(Some(reading))
 }

@@ -9,6 +9,7 @@ fn main(rt: HostRuntime) -> io::Result<()> {
     let mut input = rt.stdin();
     let mut hasher = Hasher::new();
     let mut buffer = [0u8; 65536];
+    // to the end of the input; a loop with no bound would need leave to wait for threads
     for _ in 0..u64::MAX {
         let n = input.read(&mut buffer)?;
         if n == 0 {

@@ -12,7 +12,6 @@ use Rattle.exchange.proofs.Sums.{sum_by_scale}
 use Rattle.tally.specs.Least.{Told, Broken}
 use Rattle.tally.proofs.Tells.{told_by}
 use Rattle.judging_rules.specs.Rows.{deal}
-use Rattle.judging_prices.specs.declared.Asset.{Asset}
 use Rattle.judging_prices.specs.Worth.{worth_of}
 
 -- a product of 64 and 32 bits
@@ -36,13 +35,10 @@ worth_of_sold ps vs x =
           | inr e ↦ rw e (omega arith)
         ]
 
-abbrev asset : ℕ → Asset
-asset x = record { number = x }
+abbrev assets : List ℕ
+assets = 0 ∷ 1 ∷ 2 ∷ 3 ∷ 4 ∷ 5 ∷ 6 ∷ 7 ∷ []
 
-abbrev assets : List Asset
-assets = asset 0 ∷ asset 1 ∷ asset 2 ∷ asset 3 ∷ asset 4 ∷ asset 5 ∷ asset 6 ∷ asset 7 ∷ []
-
-asset_at : (i : ℕ) → i < 8 → get_or assets i (asset 0) ≡ asset i
+asset_at : (i : ℕ) → i < 8 → get_or assets i 0 ≡ i
 asset_at zero h = refl
 asset_at (suc zero) h = refl
 asset_at (suc (suc zero)) h = refl
@@ -54,9 +50,9 @@ asset_at (suc (suc (suc (suc (suc (suc (suc zero))))))) h = refl
 asset_at (suc (suc (suc (suc (suc (suc (suc (suc i)))))))) h = absurd (omega arith)
 
 -- a rule on each asset
-pub told_assets : (p : Asset → Bool) (Q : ℕ → Type 0) (n : ℕ) (r : Result (Unit {0}) Fault) → ((x : Asset) → p x ≡ true → Q x.number) → ((x : ℕ) → Q x → p (asset x) ≡ true)
-    → Told (Broken (λ x. x.number) (λ _. 0) p assets) n r → Told (λ i j. (i < 8) × Q i × (j ≡ 0)) n r
+pub told_assets : (p : ℕ → Bool) (Q : ℕ → Type 0) (n : ℕ) (r : Result (Unit {0}) Fault) → ((x : ℕ) → p x ≡ true → Q x) → ((x : ℕ) → Q x → p x ≡ true)
+    → Told (Broken (λ x. x) (λ _. 0) p assets) n r → Told (λ i j. (i < 8) × Q i × (j ≡ 0)) n r
 told_assets p Q n r to from =
     told_by _ _ n r
-    (λ i j (x, m, e, f, q). (subst (λ z. z < 8) e (all-has (λ z. z.number < 8) assets x (lit< tt, (lit< tt, (lit< tt, (lit< tt, (lit< tt, (lit< tt, (lit< tt, (lit< tt, tt)))))))) m), subst Q e (to x q), sym f))
-    (λ i j (l, q, f). (asset i, subst (Has assets) (asset_at i l) (has_get_or assets i (asset 0) (omega arith)), refl, sym f, from i q))
+    (λ i j (x, m, e, f, q). (subst (λ z. z < 8) e (all-has (λ z. z < 8) assets x (lit< tt, (lit< tt, (lit< tt, (lit< tt, (lit< tt, (lit< tt, (lit< tt, (lit< tt, tt)))))))) m), subst Q e (to x q), sym f))
+    (λ i j (l, q, f). (i, subst (Has assets) (asset_at i l) (has_get_or assets i 0 (omega arith)), refl, sym f, from i q))

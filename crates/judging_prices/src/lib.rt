@@ -9,7 +9,7 @@ ghost use Rattle.exchange.specs.Faults.Cause.{uncleared};
 ghost use Rattle.judging_rules.specs.Rows.{Row, scene, no_store, no_book, deal};
 ghost use Rattle.judging_prices.specs.Worth.{worth_of};
 
-use tally::{Place, Placed, Rule, report};
+use tally::{Rule, report};
 use terms::{Cause, Fault, Volume};
 
 // As many pairs as there are.
@@ -54,23 +54,8 @@ fn worth_bought(prices: &[u32; 8], volumes: &[Volume], asset: u8) -> u128
         .sum()
 }
 
-#[derive(Clone, Copy)]
-struct Asset {
-    number: u8,
-}
-
-impl Placed for Asset {
-    ghost first = { λ x. x.number };
-
-    ghost second = { λ _. 0 };
-
-    fn place(&self) -> Place {
-        Place {
-            first: self.number as u64,
-            second: 0,
-        }
-    }
-}
+// The assets.
+const ASSETS: [u8; 8] = [0, 1, 2, 3, 4, 5, 6, 7];
 
 // Of an asset no less is sold than is sold for it, by worth.
 #[derive(Drop)]
@@ -80,12 +65,12 @@ struct Clearing<'a> {
     ghost few: { length volumes.now ≤ 56 },
 }
 
-impl<'a> Rule<Asset> for Clearing<'a> {
-    ghost broken = { λ r x. nat_lt (volume_of (deal r.prices.now r.volumes.now []) x.number * price_in (deal r.prices.now r.volumes.now []) x.number) (worth_for (deal r.prices.now r.volumes.now []) x.number) };
+impl<'a> Rule<u8> for Clearing<'a> {
+    ghost broken = { λ r x. nat_lt (volume_of (deal r.prices.now r.volumes.now []) x * price_in (deal r.prices.now r.volumes.now []) x) (worth_for (deal r.prices.now r.volumes.now []) x) };
 
-    fn breaks(&self, x: Asset) -> bool {
-        worth_sold(self.prices, self.volumes, x.number)
-            < worth_bought(self.prices, self.volumes, x.number)
+    fn breaks(&self, x: u8) -> bool {
+        worth_sold(self.prices, self.volumes, x)
+            < worth_bought(self.prices, self.volumes, x)
     }
 }
 
@@ -97,15 +82,5 @@ pub fn prices_clear<'a>(prices: &'a [u32; 8], volumes: &'a [Volume]) -> Result<(
     if volumes.len() > MAX_VOLUMES {
         return Err(Cause::OutOfTurn.into());
     }
-    let assets = [
-        Asset { number: 0 },
-        Asset { number: 1 },
-        Asset { number: 2 },
-        Asset { number: 3 },
-        Asset { number: 4 },
-        Asset { number: 5 },
-        Asset { number: 6 },
-        Asset { number: 7 },
-    ];
-    report(&Clearing { prices, volumes }, Cause::Uncleared as u8, &assets)
+    report(&Clearing { prices, volumes }, Cause::Uncleared as u8, &ASSETS)
 }

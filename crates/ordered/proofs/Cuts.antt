@@ -1,12 +1,13 @@
 -- Where a search by halves ends in a list whose keys rise. Assumes nothing.
-use Rattle.std.proofs.Common.{◌≡◌, ℕ, zero, suc, ◌<◌, ◌≤◌, Bool, true, false, not, List, [], ◌∷◌, length, length-take, get_or, take, drop, refl, sym, ap, ◌∙◌, subst, inl, inr, add-one, arith}
+use Rattle.std.proofs.Common.{◌≡◌, ℕ, zero, suc, ◌<◌, ◌≤◌, Bool, true, false, not, Some, None, Ok, Err, Option, Result, List, [], ◌∷◌, length, length-take, get_or, take, drop, refl, sym, ap, ◌∙◌, subst, inl, inr, add-one, arith}
 use Rattle.std.specs.List.{AllByRecursion, AllWithin}
 use Rattle.std.specs.List.Sorted.{IsPartitionedBy, IsPartitionPoint}
 use Rattle.std.proofs.lemmas.List.{drop_all, drop_more, get_or_default, get_or-take}
 use Rattle.std.proofs.ByRecursion.{All-weaker, All-get_or}
 use Rattle.std.proofs.lemmas.Bool.{cases_Bool, cases_order, both_ways}
 use Rattle.terms.specs.Order.{lower, Rising}
-use Rattle.ordered.specs.Places.{Gap, At, Cut, Past}
+use Rattle.std.specs.Result.{result_ok}
+use Rattle.ordered.specs.Places.{Gap, At, Sought, Cut, Past}
 use Rattle.terms.proofs.Order.{transitive, total}
 use Rattle.ordered.proofs.Rising.{rising_around}
 
@@ -104,3 +105,13 @@ module _ {X : Type 0} (key : X → List ℕ) (xs : List X) (k : List ℕ) where
   -- all entries lie below k
   pub gap_end : (i : ℕ) → Cut key xs k i → length xs ≤ i → Gap key xs k i
   gap_end i cut ge = record { within = cut.within; low = cut.low; high = subst (AllByRecursion (λ y. lower k (key y) ≡ true)) (sym (drop_all i xs ge)) tt }
+
+-- what a search found, as an option
+
+pub sought_some : {X : Type 0} (key : X → List ℕ) (xs : List X) (k : List ℕ) (r : Result ℕ ℕ) (i : ℕ) → result_ok r ≡ Some i → Sought key xs k r → At key xs k i
+sought_some key xs k (Ok j) i e at = let q : j ≡ i = cc in subst (At key xs k) q at
+sought_some key xs k (Err j) i e gap = cc
+
+pub sought_none : {X : Type 0} (key : X → List ℕ) (xs : List X) (k : List ℕ) (r : Result ℕ ℕ) → result_ok r ≡ None → Sought key xs k r → (i : ℕ) × Gap key xs k i
+sought_none key xs k (Ok j) e at = cc
+sought_none key xs k (Err j) e gap = (j, gap)

@@ -1,7 +1,7 @@
 -- What a block move and a write leave in the first slots: a record put in, taken out or replaced. Assumes nothing.
-use Rattle.std.proofs.Common.{◌≡◌, ℕ, zero, suc, ◌+◌, ◌-◌, ◌<◌, ◌≤◌, List, [], ◌∷◌, length, get_or, take, set, sym, refl, ap, ◌∙◌, inl, inr, arith}
-use Rattle.std.specs.List.{insert, remove}
-use Rattle.std.proofs.lemmas.List.{same_lists, get_or-take, get_or-set_same, get_or-set_other, length-set, length-take-le}
+use Rattle.std.proofs.Common.{◌≡◌, ℕ, zero, suc, ◌+◌, ◌-◌, ◌<◌, ◌≤◌, List, [], ◌∷◌, ◌++◌, None, length, get_or, take, set, sym, refl, ap, ◌∙◌, inl, inr, arith}
+use Rattle.std.specs.List.{insert, remove, slice_get}
+use Rattle.std.proofs.lemmas.List.{same_lists, get_or-take, get_or-set_same, get_or-set_other, length-set, length-take-le, drop_all, take_all, append-nil}
 use Rattle.std.proofs.lemmas.List.Edits.{length-insert, get_or-insert_below, get_or-insert_at, get_or-insert_above, length-remove, get_or-remove_below, get_or-remove_above}
 use Rattle.std.proofs.lemmas.Bool.{cases_order, cases_lt}
 
@@ -57,3 +57,13 @@ put_is [] (suc n) (suc i) y h = refl
 put_is (x ∷ xs) zero i y h = absurd (omega arith)
 put_is (x ∷ xs) (suc n) zero y h = refl
 put_is (x ∷ xs) (suc n) (suc i) y h = ap (λ l. x ∷ l) (put_is xs n i y (omega arith))
+
+-- where no record stands at i
+
+pub none_past : {X : Type 0} (xs : List X) (i : ℕ) → slice_get xs i ≡ None → length xs ≤ i
+none_past [] i e = omega arith
+none_past (x ∷ xs) zero e = cc
+none_past (x ∷ xs) (suc i) e = let h = none_past xs i e in omega arith
+
+pub remove_past : {X : Type 0} (xs : List X) (i : ℕ) → length xs ≤ i → remove xs i ≡ xs
+remove_past xs i ge = ap (λ ys. take i xs ++ ys) (drop_all (suc i) xs (omega arith)) ∙ append-nil (take i xs) ∙ take_all i xs ge

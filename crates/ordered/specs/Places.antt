@@ -1,5 +1,5 @@
 -- Places in a list whose keys rise. Assumes nothing.
-use Rattle.std.specs.Prelude.{◌≡◌, ℕ, ◌<◌, ◌≤◌, true, false, List, [], length, take, drop, Some, None, Option, slice_index_or}
+use Rattle.std.specs.Prelude.{◌≡◌, ℕ, ◌<◌, ◌≤◌, true, false, List, [], length, take, drop, Some, None, Ok, Err, Option, Result, slice_index_or}
 use Rattle.std.specs.List.{AllByRecursion}
 use Rattle.terms.specs.Order.{lower}
 
@@ -13,6 +13,11 @@ pub record Gap {X : Type 0} (key : X → List ℕ) (xs : List X) (k : List ℕ) 
   pub within : i ≤ length xs
   pub low : AllByRecursion (λ y. lower (key y) k ≡ true) (take i xs)
   pub high : AllByRecursion (λ y. lower k (key y) ≡ true) (drop i xs)
+
+-- the place of the key k, or else the one where it goes in
+abbrev pub Sought : {X : Type 0} (key : X → List ℕ) (xs : List X) (k : List ℕ) → Result ℕ ℕ → Type 0
+Sought key xs k (Ok i) = At key xs k i
+Sought key xs k (Err i) = Gap key xs k i
 
 -- the entries before i lie below k, the others do not
 pub record Cut {X : Type 0} (key : X → List ℕ) (xs : List X) (k : List ℕ) (i : ℕ) : Type 0 where

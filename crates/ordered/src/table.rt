@@ -1,13 +1,14 @@
 // The ordered table. Its records stand in the first `len` slots of a lent slice. That their keys rise is no
 // invariant of the table but of the type around it: look-ups promise their answers where the keys rise.
 // Assumes nothing.
-ghost use Rattle.std.specs.Prelude.{◌≡◌, ℕ, ◌+◌, ◌-◌, ◌<◌, ◌≤◌, min, ◌&&◌, List, length, take, if◌then◌else◌, sum_by, MatchOption, MatchResult, nat_le, nat_lt, slice_index_or, slice_set};
+ghost use Rattle.std.specs.Prelude.{◌≡◌, ℕ, ◌+◌, ◌-◌, ◌<◌, ◌≤◌, min, ◌&&◌, List, [], length, take, if◌then◌else◌, sum_by, MatchResult, nat_le, nat_lt, slice_get, slice_set};
 ghost use Rattle.std.specs.List.{insert, remove};
 ghost use Rattle.std.specs.Ordering.{is_lt};
 ghost use Rattle.terms.specs.Order.{lower, Rising, above};
-ghost use Rattle.ordered.specs.Places.{Gap, At, Cut, Past, told};
+ghost use Rattle.ordered.specs.Places.{Cut, Past, Sought, told};
 
 use crate::sums::{Amounts, total};
+use std::marker::Model;
 
 // A key, by the numbers that it is compared by, in turn.
 pub trait SortKey: Copy + Ord {
@@ -30,14 +31,14 @@ pub trait Keyed: Copy {
 // How many records lie below `key`.
 fn lower_bound<R: Keyed>(records: &[R], key: R::Id) -> usize
     ensures within { result ≤ length records.now }
-    ensures cut { Rising (λ x. R.Id.SortKey.rank (R.Keyed.key x)) records.now → Cut (λ x. R.Id.SortKey.rank (R.Keyed.key x)) records.now (R.Id.SortKey.rank key) result }
+    ensures cut { Rising (λ x. R.Id.rank (R.key x)) records.now → Cut (λ x. R.Id.rank (R.key x)) records.now (R.Id.rank key) result }
 {
     records.partition_point(|x| x.key() < key)
 }
 
 // How many records do not lie above `key`: the place of the lowest one above it.
 fn upper_bound<R: Keyed>(records: &[R], key: R::Id) -> usize
-    ensures { Rising (λ x. R.Id.SortKey.rank (R.Keyed.key x)) records.now → Past (λ x. R.Id.SortKey.rank (R.Keyed.key x)) records.now (R.Id.SortKey.rank key) result }
+    ensures { Rising (λ x. R.Id.rank (R.key x)) records.now → Past (λ x. R.Id.rank (R.key x)) records.now (R.Id.rank key) result }
 {
     records.partition_point(|x| x.key() <= key)
 }
@@ -45,7 +46,7 @@ fn upper_bound<R: Keyed>(records: &[R], key: R::Id) -> usize
 // The place of `key` among records whose keys rise, or in Err where it would go.
 pub fn search<R: Keyed>(records: &[R], key: R::Id) -> Result<usize, usize>
     ensures within { MatchResult result (λ i. i < length records.now) (λ i. i ≤ length records.now) }
-    ensures found { Rising (λ x. R.Id.SortKey.rank (R.Keyed.key x)) records.now → MatchResult result (λ i. At (λ x. R.Id.SortKey.rank (R.Keyed.key x)) records.now (R.Id.SortKey.rank key) i) (λ i. Gap (λ x. R.Id.SortKey.rank (R.Keyed.key x)) records.now (R.Id.SortKey.rank key) i) }
+    ensures found { Rising (λ x. R.Id.rank (R.key x)) records.now → Sought (λ x. R.Id.rank (R.key x)) records.now (R.Id.rank key) result }
 {
     let i = lower_bound(records, key);
     match records.get(i) {
@@ -79,54 +80,71 @@ fn replace<R: Copy>(slots: &mut [R], len: usize, at: usize, item: R)
     slots[at] = item;
 }
 
-// An ordered table: its records are those in the first `len` slots.
+// An ordered table: the records in the first `len` slots, which the caller lends, and as many more as there are slots.
 #[derive(Drop)]
 pub struct Table<'a, R: Keyed> {
+    // memory is lent, and no more is asked for: so a slice with a length beside it, and no Vec
     slots: &'a mut [R],
     len: usize,
+}
+
+impl<'a, R: Keyed> Model for Table<'a, R> {
+    ghost use Rattle.std.specs.Prelude.{◌≤◌, length, take};
+    ghost use Rattle.ordered.specs.Rows.{Rows};
+
+    ghost Value = { Rows R };
+
+    ghost view = { λ t. record { records = take t.len t.slots.now; capacity = length t.slots.now } };
+
+    ghost invariant = { λ t. t.len ≤ length t.slots.now };
 }
 
 impl<'a, R: Keyed> Table<'a, R> {
     // An empty table, whatever the slots hold.
     pub fn new(slots: &'a mut [R]) -> Self
-        ensures len { result.len ≡ 0 }
-        ensures slots { result.slots.now ≡ slots.old }
+        ensures { result ≡ record { records = []; capacity = length slots.old } }
     {
         Table { slots, len: 0 }
     }
 
     // How many records there are.
     pub fn len(&self) -> usize
-        ensures { result ≡ length (take self.now.len self.now.slots.now) }
+        ensures { result ≡ length self.now.records }
     {
         self.records().len()
     }
 
     // How many there may be.
     pub fn capacity(&self) -> usize
-        ensures { result ≡ length self.now.slots.now }
+        ensures { result ≡ self.now.capacity }
     {
         self.slots.len()
     }
 
+    // Whether there are as many as there may be.
+    pub fn is_full(&self) -> bool
+        ensures { result ≡ nat_le self.now.capacity (length self.now.records) }
+    {
+        self.len >= self.slots.len()
+    }
+
     // All records, in the order of their places.
     pub fn records(&self) -> &[R]
-        ensures { result.now ≡ take self.now.len self.now.slots.now }
+        ensures { result.now ≡ self.now.records }
     {
-        let n = self.len.min(self.slots.len());
-        &self.slots[0..n]
+        &self.slots[..self.len]
     }
 
     // The place of the record with this key, or in Err the place where one would go.
     pub fn search(&self, key: R::Id) -> Result<usize, usize>
-        ensures { Rising (λ x. R.Id.SortKey.rank (R.Keyed.key x)) (take self.now.len self.now.slots.now) → MatchResult result (λ i. At (λ x. R.Id.SortKey.rank (R.Keyed.key x)) (take self.now.len self.now.slots.now) (R.Id.SortKey.rank key) i) (λ i. Gap (λ x. R.Id.SortKey.rank (R.Keyed.key x)) (take self.now.len self.now.slots.now) (R.Id.SortKey.rank key) i) }
+        ensures { Rising (λ x. R.Id.rank (R.key x)) self.now.records → Sought (λ x. R.Id.rank (R.key x)) self.now.records (R.Id.rank key) result }
     {
         search(self.records(), key)
     }
 
     // The lowest key above this one.
     pub fn next(&self, key: R::Id) -> Option<R::Id>
-        ensures { Rising (λ x. R.Id.SortKey.rank (R.Keyed.key x)) (take self.now.len self.now.slots.now) → told R.Id.SortKey.rank result ≡ above (λ x. R.Id.SortKey.rank (R.Keyed.key x)) (take self.now.len self.now.slots.now) (R.Id.SortKey.rank key) }
+        ensures { Rising (λ x. R.Id.rank (R.key x)) self.now.records → told R.Id.rank result ≡ above (λ x. R.Id.rank (R.key x)) self.now.records (R.Id.rank key) }
     {
         let all = self.records();
         let x = all.get(upper_bound(all, key))?;
@@ -135,7 +153,7 @@ impl<'a, R: Keyed> Table<'a, R> {
 
     // The record at a place.
     pub fn get(&self, at: usize) -> Option<R>
-        ensures { MatchOption result (length (take self.now.len self.now.slots.now) ≤ at) (λ x. (at < length (take self.now.len self.now.slots.now)) × (x ≡ slice_index_or (take self.now.len self.now.slots.now) at x)) }
+        ensures { result ≡ slice_get self.now.records at }
     {
         self.records().get(at).copied()
     }
@@ -143,10 +161,8 @@ impl<'a, R: Keyed> Table<'a, R> {
     // Puts a record in at a place, and those from there on move one place up. False where the place lies past the
     // end or no slot is free; then nothing changes.
     pub fn insert(&mut self, at: usize, item: R) -> bool
-        ensures done { result ≡ (nat_le at self.old.len && nat_lt self.old.len (length self.old.slots.now)) }
-        ensures len { self.new.len ≡ (if result then self.old.len + 1 else self.old.len) }
-        ensures fits { length self.new.slots.now ≡ length self.old.slots.now }
-        ensures records { take self.new.len self.new.slots.now ≡ (if result then insert (take self.old.len self.old.slots.now) at item else take self.old.len self.old.slots.now) }
+        ensures done { result ≡ (nat_le at (length self.old.records) && nat_lt (length self.old.records) self.old.capacity) }
+        ensures after { self.new ≡ (if result then record { records = insert self.old.records at item; capacity = self.old.capacity } else self.old) }
     {
         let n = self.len;
         if at > n || n >= self.slots.len() {
@@ -157,44 +173,36 @@ impl<'a, R: Keyed> Table<'a, R> {
         true
     }
 
-    // Takes the record at a place out, and those after it move one place down. False where no record stands there;
+    // Takes the record at a place out, and those after it move one place down. None where no record stands there;
     // then nothing changes.
-    pub fn remove(&mut self, at: usize) -> bool
-        ensures done { result ≡ (nat_lt at self.old.len && nat_le self.old.len (length self.old.slots.now)) }
-        ensures len { self.new.len ≡ (if result then self.old.len - 1 else self.old.len) }
-        ensures fits { length self.new.slots.now ≡ length self.old.slots.now }
-        ensures records { take self.new.len self.new.slots.now ≡ (if result then remove (take self.old.len self.old.slots.now) at else take self.old.len self.old.slots.now) }
+    pub fn remove(&mut self, at: usize) -> Option<R>
+        ensures taken { result ≡ slice_get self.old.records at }
+        ensures after { self.new ≡ record { records = remove self.old.records at; capacity = self.old.capacity } }
     {
+        let taken = self.get(at)?;
         let n = self.len;
-        if at >= n || n > self.slots.len() {
-            return false;
-        }
         remove(self.slots, n, at);
         self.len = n - 1;
-        true
+        Some(taken)
     }
 
-    // Writes a record over the one at a place. False where no record stands there; then nothing changes.
-    pub fn set(&mut self, at: usize, item: R) -> bool
-        ensures done { result ≡ (nat_lt at self.old.len && nat_le self.old.len (length self.old.slots.now)) }
-        ensures len { self.new.len ≡ self.old.len }
-        ensures fits { length self.new.slots.now ≡ length self.old.slots.now }
-        ensures records { take self.new.len self.new.slots.now ≡ (if result then slice_set (take self.old.len self.old.slots.now) at item else take self.old.len self.old.slots.now) }
+    // Writes a record over the one at a place, which it hands back. None where no record stands there; then nothing
+    // changes.
+    pub fn replace(&mut self, at: usize, item: R) -> Option<R>
+        ensures taken { result ≡ slice_get self.old.records at }
+        ensures after { self.new ≡ record { records = slice_set self.old.records at item; capacity = self.old.capacity } }
     {
+        let taken = self.get(at)?;
         let n = self.len;
-        if at >= n || n > self.slots.len() {
-            return false;
-        }
         replace(self.slots, n, at, item);
-        self.len = n;
-        true
+        Some(taken)
     }
 
     // The sum of what the records name, or the largest u64 where the sum is larger.
     pub fn sum<By: Copy>(&self, by: By) -> u64
     where
         R: Amounts<By>,
-        ensures { result ≡ min (sum_by (λ x. R.Amounts.amount x by) (take self.now.len self.now.slots.now)) 18446744073709551615 }
+        ensures { result ≡ min (sum_by (λ x. R.Amounts.amount x by) self.now.records) 18446744073709551615 }
     {
         total(self.records(), by)
     }

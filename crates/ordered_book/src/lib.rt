@@ -3,7 +3,7 @@
 // one block of offers, and the sums look at each offer once. Assumes nothing.
 #![tactic(auto)]
 
-ghost use Rattle.std.specs.Prelude.{◌≡◌, ℕ, ◌+◌, ◌-◌, ◌<◌, ◌≤◌, min, true, ◌&&◌, List, [], length, take, if◌then◌else◌, ◌==◌, nat_eq, nat_le};
+ghost use Rattle.std.specs.Prelude.{◌≡◌, ℕ, min, true, ◌&&◌, [], length, if◌then◌else◌, ◌==◌, nat_eq, nat_le};
 ghost use Rattle.terms.specs.Holdings.{sound_book};
 ghost use Rattle.ordered_book.specs.Rows.{book_of, Found};
 
@@ -38,46 +38,39 @@ impl Amounts<Reach> for Offer {
 #[derive(Drop)]
 pub struct OrderedBook<'a> {
     table: Table<'a, Offer>,
-    ghost fits: { table.len ≤ length table.slots.now },
-    ghost sound: { sound_book (book_of table.len table.slots.now) ≡ true },
+    // the offers are in order and in range
+    ghost sound: { sound_book (book_of table) ≡ true },
 }
 
 impl<'a> OrderedBook<'a> {
     // An empty book, whatever the slots hold. Its capacity is their number, or 65,536 where there are more; slots
     // beyond lie idle.
     pub fn new(slots: &'a mut [Offer]) -> Self
-        ensures { book_of result.table.len result.table.slots.now ≡ record { capacity = min (length slots.old) 65536; offers = [] } }
+        ensures { book_of result.table ≡ record { capacity = min (length slots.old) 65536; offers = [] } }
     {
         let n = slots.len().min(MOST);
         OrderedBook {
-            table: Table::new(&mut slots[0..n]),
+            table: Table::new(&mut slots[..n]),
         }
     }
 
     // The offer with this key, and its place.
     fn find(&self, key: Key) -> Option<(usize, Offer)>
-        ensures { Found (take self.now.table.len self.now.table.slots.now) key result }
+        ensures { Found self.now.table.records key result }
     {
-        match self.table.search(key) {
-            Ok(i) => match self.table.get(i) {
-                Some(o) => Some((i, o)),
-                None => None,
-            },
-            Err(_) => None,
-        }
+        let i = self.table.search(key).ok()?;
+        let offer = self.table.get(i)?;
+        Some((i, offer))
     }
 }
 
 impl<'a> OfferBook for OrderedBook<'a> {
-    ghost book = { λ s. book_of s.table.len s.table.slots.now };
+    ghost book = { λ s. book_of s.table };
 
     ghost sound = { λ s. s.sound };
 
     fn amount(&self, key: Key) -> u64 {
-        match self.find(key) {
-            Some((_, o)) => o.amount,
-            None => 0,
-        }
+        self.find(key).map_or(0, |(_, o)| o.amount)
     }
 
     fn count(&self) -> u32 {
@@ -106,35 +99,29 @@ impl<'a> OfferBook for OrderedBook<'a> {
     }
 
     fn place(&mut self, key: Key, units: u64) -> Result<(), Fault> {
-        match self.table.search(key) {
-            Ok(_) => Err(Cause::StandsAlready.into()),
-            Err(i) => {
-                if self.table.len() >= self.table.capacity() {
-                    return Err(Cause::NoRoom.into());
-                }
-                if !in_range(key, units) {
-                    return Err(Cause::BadOperand.into());
-                }
-                self.table.insert(i, Offer { key, amount: units });
-                Ok(())
-            }
+        let Err(i) = self.table.search(key) else {
+            return Err(Cause::StandsAlready.into());
+        };
+        if self.table.is_full() {
+            return Err(Cause::NoRoom.into());
         }
+        if !in_range(key, units) {
+            return Err(Cause::BadOperand.into());
+        }
+        self.table.insert(i, Offer { key, amount: units });
+        Ok(())
     }
 
     fn reduce(&mut self, key: Key, units: u64) -> Result<(), Fault> {
-        match self.find(key) {
-            Some((i, o)) => {
-                if units > o.amount {
-                    return Err(Cause::BadOperand.into());
-                }
-                if units == 0 {
-                    self.table.remove(i);
-                    return Ok(());
-                }
-                self.table.set(i, Offer { key, amount: units });
-                Ok(())
-            }
-            None => Err(Cause::Absent.into()),
+        let (i, offer) = self.find(key).ok_or(Cause::Absent)?;
+        if units > offer.amount {
+            return Err(Cause::BadOperand.into());
         }
+        if units == 0 {
+            self.table.remove(i);
+        } else {
+            self.table.replace(i, Offer { key, amount: units });
+        }
+        Ok(())
     }
 }

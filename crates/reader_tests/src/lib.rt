@@ -52,20 +52,22 @@ mod tests {
     use blocks::{read_block, read_founding};
     use commands::{Command, length, read};
     use std::test::Fail;
+    use terms::Fault;
 
-    // The fault of a block as its number and first place; 0 and its length where it is readable.
-    fn block_fault(block: &Vec<u8>) -> (u8, u64) {
-        match read_block(block.as_slice()) {
-            Ok(_) => (0, block.len() as u64),
+    // What reading so many bytes gave: the fault's number and first place; 0 and the length where they are readable.
+    fn seen<T: Drop>(reading: Result<T, Fault>, length: usize) -> (u8, u64) {
+        match reading {
+            Ok(_) => (0, length as u64),
             Err(fault) => (fault.number, fault.first),
         }
     }
 
+    fn block_fault(block: &Vec<u8>) -> (u8, u64) {
+        seen(read_block(block.as_slice()), block.len())
+    }
+
     fn founding_fault(founding: &Vec<u8>) -> (u8, u64) {
-        match read_founding(founding.as_slice()) {
-            Ok(_) => (0, founding.len() as u64),
-            Err(fault) => (fault.number, fault.first),
-        }
+        seen(read_founding(founding.as_slice()), founding.len())
     }
 
     #[test]
@@ -102,28 +104,22 @@ mod tests {
         let mut block = Vec::new(rt.alloc());
         block.extend_from_slice(b"B\x00\x00\x00\x01")?;
         block.extend_from_slice(&[0; 32])?;
-        block.extend_from_slice(&[b'P', 1, 0, 0, 0, 1])?;
-        assert_eq!(rt;
-            block_fault(&block),
-            (4, 37),
-            "the price of asset 1 before that of asset 0"
-        );
-        block.truncate(37);
-        block.extend_from_slice(&[b'P', 9, 0, 0, 0, 0])?;
-        assert_eq!(rt;
-            block_fault(&block),
-            (4, 37),
-            "out of turn comes before out of range"
-        );
-        block.truncate(37);
-        block.extend_from_slice(&[b'P', 0, 0, 0, 0, 0])?;
-        assert_eq!(rt; block_fault(&block), (5, 37), "price 0");
-        block.truncate(37);
-        block.extend_from_slice(&[b'P', 0, 0x01, 0, 0, 0])?;
-        assert_eq!(rt; block_fault(&block), (5, 37), "price 16,777,216");
-        block.truncate(37);
-        block.extend_from_slice(&[b'P', 0, 0, 0xff, 0xff, 0xff])?;
-        assert_eq!(rt; block_fault(&block), (2, 43), "price 16,777,215");
+        for (price, fault, case) in [
+            ([1, 0, 0, 0, 1], (4, 37), "asset 1 before asset 0"),
+            (
+                [9, 0, 0, 0, 0],
+                (4, 37),
+                "out of turn comes before out of range",
+            ),
+            ([0, 0, 0, 0, 0], (5, 37), "price 0"),
+            ([0, 0x01, 0, 0, 0], (5, 37), "price 16,777,216"),
+            ([0, 0, 0xff, 0xff, 0xff], (2, 43), "price 16,777,215"),
+        ] {
+            block.truncate(37);
+            block.push(b'P')?;
+            block.extend_from_slice(&price)?;
+            assert_eq!(rt; block_fault(&block), fault, "{case}");
+        }
         Ok(())
     }
 
@@ -133,24 +129,17 @@ mod tests {
         volume(&mut block, 0, 1, 100)?;
         volume(&mut block, 1, 0, 68_719_476_735)?;
         assert_eq!(rt; block_fault(&block), (2, 107), "rising pairs");
-        volume(&mut block, 1, 0, 5)?;
-        assert_eq!(rt; block_fault(&block), (4, 107), "a pair that does not rise");
-        block.truncate(107);
-        volume(&mut block, 3, 3, 5)?;
-        assert_eq!(rt; block_fault(&block), (5, 107), "sold for itself");
-        block.truncate(107);
-        volume(&mut block, 1, 9, 5)?;
-        assert_eq!(rt;
-            block_fault(&block),
-            (5, 107),
-            "a rising pair with an asset above 7"
-        );
-        block.truncate(107);
-        volume(&mut block, 2, 0, 0)?;
-        assert_eq!(rt; block_fault(&block), (5, 107), "amount 0");
-        block.truncate(107);
-        volume(&mut block, 2, 0, 68_719_476_736)?;
-        assert_eq!(rt; block_fault(&block), (5, 107), "amount 68,719,476,736");
+        for (sold, bought, amount, fault, case) in [
+            (1, 0, 5, (4, 107), "a pair that does not rise"),
+            (3, 3, 5, (5, 107), "sold for itself"),
+            (1, 9, 5, (5, 107), "a rising pair with an asset above 7"),
+            (2, 0, 0, (5, 107), "amount 0"),
+            (2, 0, 68_719_476_736, (5, 107), "amount 68,719,476,736"),
+        ] {
+            block.truncate(107);
+            volume(&mut block, sold, bought, amount)?;
+            assert_eq!(rt; block_fault(&block), fault, "{case}");
+        }
         Ok(())
     }
 

@@ -3,7 +3,7 @@
 // Assumes nothing.
 #![tactic(auto)]
 
-ghost use Rattle.std.specs.Prelude.{◌≡◌, ℕ, ◌+◌, ◌-◌, ◌<◌, ◌≤◌, min, true, List, [], ◌∷◌, length, take};
+ghost use Rattle.std.specs.Prelude.{◌≡◌, ℕ, min, true, [], length};
 ghost use Rattle.terms.specs.Holdings.{sound_store};
 ghost use Rattle.sorted_store.specs.Rows.{store_of, Found};
 
@@ -15,62 +15,48 @@ use terms::{Account, Cause, Fault, MAX_BALANCE};
 pub struct SortedStore<'a> {
     table: Table<'a, Account>,
     top: u32,
-    // no more accounts than slots, and those in the first slots are in order and in range
-    ghost fits: { table.len ≤ length table.slots.now },
-    ghost sound: { sound_store (store_of table.len top table.slots.now) ≡ true },
+    // the accounts are in order and in range
+    ghost sound: { sound_store (store_of table top) ≡ true },
 }
 
 impl<'a> SortedStore<'a> {
     // An empty store, whatever the slots hold. Its capacity is their number, or 65,536 where there are more; slots
     // beyond lie idle.
     pub fn new(slots: &'a mut [Account], top: u32) -> Self
-        ensures { store_of result.table.len result.top result.table.slots.now ≡ record { capacity = min (length slots.old) 65536; top = top; accounts = [] } }
+        ensures { store_of result.table result.top ≡ record { capacity = min (length slots.old) 65536; top = top; accounts = [] } }
     {
         let n = slots.len().min(MAX_ACCOUNTS);
         SortedStore {
-            table: Table::new(&mut slots[0..n]),
+            table: Table::new(&mut slots[..n]),
             top,
         }
     }
 
     // The account with this number, and its place.
     fn find(&self, number: u32) -> Option<(usize, Account)>
-        ensures { Found (take self.now.table.len self.now.table.slots.now) number result }
+        ensures { Found self.now.table.records number result }
     {
-        match self.table.search(number) {
-            Ok(i) => match self.table.get(i) {
-                Some(a) => Some((i, a)),
-                None => None,
-            },
-            Err(_) => None,
-        }
+        let i = self.table.search(number).ok()?;
+        let account = self.table.get(i)?;
+        Some((i, account))
     }
 }
 
 impl<'a> AccountStore for SortedStore<'a> {
-    ghost store = { λ s. store_of s.table.len s.top s.table.slots.now };
+    ghost store = { λ s. store_of s.table s.top };
 
     ghost sound = { λ s. s.sound };
 
     fn stands(&self, number: u32) -> bool {
-        match self.find(number) {
-            Some(_) => true,
-            None => false,
-        }
+        self.find(number).is_some()
     }
 
     fn balance(&self, number: u32, asset: u8) -> u64 {
-        match self.find(number) {
-            Some((_, a)) => a.amount(asset),
-            None => 0,
-        }
+        self.find(number).map_or(0, |(_, a)| a.amount(asset))
     }
 
     fn floor(&self, number: u32) -> u32 {
-        match self.find(number) {
-            Some((_, a)) => a.floor,
-            None => 0,
-        }
+        self.find(number).map_or(0, |(_, a)| a.floor)
     }
 
     fn count(&self) -> u32 {
@@ -97,41 +83,30 @@ impl<'a> AccountStore for SortedStore<'a> {
         if number == 0 || number > self.top {
             return Err(Cause::NoSuchAccount.into());
         }
-        match self.table.search(number) {
-            Ok(_) => Err(Cause::StandsAlready.into()),
-            Err(i) => {
-                if self.table.len() >= self.table.capacity() {
-                    Err(Cause::NoRoom.into())
-                } else {
-                    self.table.insert(i, new_account(number));
-                    Ok(())
-                }
-            }
+        let Err(i) = self.table.search(number) else {
+            return Err(Cause::StandsAlready.into());
+        };
+        if self.table.insert(i, new_account(number)) {
+            Ok(())
+        } else {
+            Err(Cause::NoRoom.into())
         }
     }
 
     fn set_balance(&mut self, number: u32, asset: u8, value: u64) -> Result<(), Fault> {
-        match self.find(number) {
-            Some((i, mut a)) => {
-                if asset >= 8 || value > MAX_BALANCE {
-                    return Err(Cause::BadOperand.into());
-                }
-                a.balances[asset as usize] = value;
-                self.table.set(i, a);
-                Ok(())
-            }
-            None => Err(Cause::Absent.into()),
+        let (i, mut account) = self.find(number).ok_or(Cause::Absent)?;
+        if asset >= 8 || value > MAX_BALANCE {
+            return Err(Cause::BadOperand.into());
         }
+        account.balances[asset as usize] = value;
+        self.table.replace(i, account);
+        Ok(())
     }
 
     fn set_floor(&mut self, number: u32, value: u32) -> Result<(), Fault> {
-        match self.find(number) {
-            Some((i, mut a)) => {
-                a.floor = value;
-                self.table.set(i, a);
-                Ok(())
-            }
-            None => Err(Cause::Absent.into()),
-        }
+        let (i, mut account) = self.find(number).ok_or(Cause::Absent)?;
+        account.floor = value;
+        self.table.replace(i, account);
+        Ok(())
     }
 }

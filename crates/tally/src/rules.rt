@@ -40,6 +40,20 @@ impl Placed for Place {
     }
 }
 
+// An asset is named by its number.
+impl Placed for u8 {
+    ghost first = { λ x. x };
+
+    ghost second = { λ _. 0 };
+
+    fn place(&self) -> Place {
+        Place {
+            first: *self as u64,
+            second: 0,
+        }
+    }
+}
+
 // A transaction is named by its source and its sequence number.
 impl Placed for Transaction {
     ghost first = { λ t. t.source };
@@ -82,10 +96,7 @@ pub trait Rule<X> {
 fn lesser(best: Option<Place>, p: Place) -> Option<Place>
     ensures { result ≡ lesser_of best p }
 {
-    match best {
-        None => Some(p),
-        Some(b) => { if p < b { Some(p) } else { Some(b) } }
-    }
+    Some(best.map_or(p, |b| b.min(p)))
 }
 
 // The least place at which the rule is broken, in one pass.

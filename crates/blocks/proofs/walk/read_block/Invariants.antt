@@ -3,8 +3,8 @@ use Rattle.commands.specs.Format.{Cmd}
 use Rattle.blocks.proofs.Walking.{Walked}
 use Rattle.blocks.proofs.walk.read_block.Given as goal
 
-abbrev pub invariant-loop-at : goal.invariant-loop-at
-invariant-loop-at l = (length l.bytes ≤ 40000) × (cs : List Cmd) × Walked l.bytes cs l.at l.stage l.draft
+abbrev pub invariant-loop-reading : goal.invariant-loop-reading
+invariant-loop-reading l = (length l.bytes ≤ 40000) × (cs : List Cmd) × Walked l.bytes cs l.at l.stage l.draft
 
-abbrev pub decreases-loop-at : goal.decreases-loop-at
-decreases-loop-at l = length l.bytes - l.at
+abbrev pub decreases-loop-reading : goal.decreases-loop-reading
+decreases-loop-reading l = length l.bytes - l.at

@@ -7,4 +7,4 @@ use Rattle.ordered_book.proofs.OrderedBookOfferBook.offered.Goals as goal
 pub returns : goal.returns
 returns c =
     let s = c.args.self.now in
-    omega (arith, c.sum.ensures, part_fits (book_of s.table.len s.table.slots.now) (λ o. eqb o.key.sold c.args.sold) (ok s.table.len s.table.slots.now s.fits s.sound))
+    omega (arith, c.sum.ensures, part_fits (book_of s.table) (λ o. eqb o.key.sold c.args.sold) (ok s.table s.sound))

@@ -1,8 +1,8 @@
-use Rattle.std.proofs.Common.{get_or, sym, ◌∙◌}
-use Rattle.sorted_store.proofs.Slots.{all_at}
+use Rattle.std.proofs.Common.{get_or, rules}
+use Rattle.sorted_store.proofs.Slots.{found_is}
 use Rattle.sorted_store.proofs.SortedStoreAccountStore.balance.Goals as goal
 
-pub returns-in-Some : goal.returns-in-Some
-returns-in-Some c =
-    c.amount.ensures
-    ∙ sym (all_at c.args.self.now.table.len c.args.self.now.top c.args.self.now.table.slots.now c.args.self.now.fits c.args.self.now.sound c.args.number _ _ c.in-Some.ensures.0 c.in-Some.ensures.1 (λ a. get_or a.balances c.args.asset 0))
+pub returns : goal.returns
+returns c =
+    let s = c.args.self.now in
+    found_is s.table s.top s.sound c.args.number c.find.result c.find.ensures (λ a. get_or a.balances c.args.asset 0) c.map_or.result (search rules)

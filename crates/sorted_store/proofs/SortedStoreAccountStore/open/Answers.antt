@@ -1,36 +1,49 @@
-use Rattle.std.proofs.Common.{cond, take, Err, refl, ap, ◌∙◌, arith}
+use Rattle.std.proofs.Common.{◌≡◌, ◌<◌, ◌≤◌, true, cond, length, Err, ap, ◌∙◌, arith}
+use Rattle.std.proofs.lemmas.Bool.Decides.{nat_tests}
 use Rattle.std.specs.List.{insert}
+use Rattle.terms.specs.declared.Account.{Account}
+use Rattle.ordered.specs.Rows.{Rows}
 use Rattle.accounts.proofs.Edits.{fresh}
 use Rattle.accounts.proofs.Replies.{open_stands, open_full, open_made}
 use Rattle.sorted_store.specs.Rows.{store_of}
-use Rattle.sorted_store.proofs.Slots.{ok, rows, one_at, none_at, opens}
+use Rattle.sorted_store.proofs.Slots.{ok, one_at, none_at, opens, stays}
 use Rattle.sorted_store.proofs.SortedStoreAccountStore.open.Goals as goal
+
+pub returns-in_default-clause-answer : goal.returns-in_default-clause-answer
+returns-in_default-clause-answer c =
+    let s = c.args.self.now in
+    ap Err c.into-in_default.ensures
+    ∙ open_stands (store_of s.table s.top) c.args.number c.if-number-eq0.false (omega arith)
+    (one_at s.table s.top s.sound _ _ (c.in_default.ensures (ok s.table s.top s.sound).up) (fresh 0))
 
 pub invariant_of-self : goal.invariant_of-self
 invariant_of-self c =
-    let o = opens c.args.self.now.table.len c.args.self.now.top c.args.self.now.table.slots.now c.args.self.now.fits c.args.self.now.sound c.args.number c.in-Err.i c.insert.new.self.len c.insert.new.self.slots.now c.insert.result (omega arith) (omega arith) (c.in-Err.ensures (ok c.args.self.now.table.len c.args.self.now.top c.args.self.now.table.slots.now c.args.self.now.fits c.args.self.now.sound).up)
-    (omega (arith, rows c.args.self.now.table.len c.args.self.now.top c.args.self.now.table.slots.now c.args.self.now.fits c.args.self.now.sound)) c.insert.ensures.done c.insert.ensures.len c.insert.ensures.fits (c.insert.ensures.records ∙ ap (λ a. cond c.insert.result (insert (take c.args.self.now.table.len c.args.self.now.table.slots.now) c.in-Err.i a) (take c.args.self.now.table.len c.args.self.now.table.slots.now)) c.new_account.ensures) in
-    record { fits = o.2; sound = o.1 }
-
-pub returns-in-Ok : goal.returns-in-Ok
-returns-in-Ok c =
+    let s = c.args.self.now in
+    let room : c.insert.result ≡ true → length s.table.records < s.table.capacity = λ p. grind (arith, nat_tests, c.insert.ensures.done, p) in
     record {
-      answer = ap Err c.into-in-Ok.ensures ∙ open_stands (store_of c.args.self.now.table.len c.args.self.now.top c.args.self.now.table.slots.now) c.args.number c.if-number-eq0.false (omega arith) (one_at c.args.self.now.table.len c.args.self.now.top c.args.self.now.table.slots.now c.args.self.now.fits c.args.self.now.sound _ _ (c.in-Ok.ensures (ok c.args.self.now.table.len c.args.self.now.top c.args.self.now.table.slots.now c.args.self.now.fits c.args.self.now.sound).up) (fresh 0));
-      after = refl;
+      sound = stays s.table s.top s.sound c.args.number c.in-Err.i c.insert.new.self c.insert.result (omega arith) (omega arith) (c.in-Err.ensures (ok s.table s.top s.sound).up) room
+          (c.insert.ensures.after ∙ ap (λ a. cond c.insert.result (record { records = insert s.table.records c.in-Err.i a; capacity = s.table.capacity }) s.table) c.new_account.ensures);
     }
 
-pub returns-then-len-capacity : goal.returns-then-len-capacity
-returns-then-len-capacity c =
-    record {
-      answer = ap Err c.into-then-len-capacity.ensures ∙ open_full (store_of c.args.self.now.table.len c.args.self.now.top c.args.self.now.table.slots.now) c.args.number c.if-number-eq0.false (omega arith) (none_at c.args.self.now.table.len c.args.self.now.top c.args.self.now.table.slots.now c.args.self.now.fits c.args.self.now.sound _ _ (c.in-Err.ensures (ok c.args.self.now.table.len c.args.self.now.top c.args.self.now.table.slots.now c.args.self.now.fits c.args.self.now.sound).up) (λ _. 1)) (omega arith);
-      after = refl;
-    }
+pub returns-then-insert-clause-answer : goal.returns-then-insert-clause-answer
+returns-then-insert-clause-answer c =
+    let s = c.args.self.now in
+    let room : length s.table.records < s.table.capacity = grind (arith, nat_tests, c.if-insert.ensures.done) in
+    open_made (store_of s.table s.top) c.args.number c.if-number-eq0.false (omega arith)
+    (none_at s.table s.top s.sound _ _ (c.in-Err.ensures (ok s.table s.top s.sound).up) (λ _. 1)) room
 
-pub returns-else-len-capacity : goal.returns-else-len-capacity
-returns-else-len-capacity c =
-    let o = opens c.args.self.now.table.len c.args.self.now.top c.args.self.now.table.slots.now c.args.self.now.fits c.args.self.now.sound c.args.number c.in-Err.i c.insert.new.self.len c.insert.new.self.slots.now c.insert.result (omega arith) (omega arith) (c.in-Err.ensures (ok c.args.self.now.table.len c.args.self.now.top c.args.self.now.table.slots.now c.args.self.now.fits c.args.self.now.sound).up)
-    (omega (arith, rows c.args.self.now.table.len c.args.self.now.top c.args.self.now.table.slots.now c.args.self.now.fits c.args.self.now.sound)) c.insert.ensures.done c.insert.ensures.len c.insert.ensures.fits (c.insert.ensures.records ∙ ap (λ a. cond c.insert.result (insert (take c.args.self.now.table.len c.args.self.now.table.slots.now) c.in-Err.i a) (take c.args.self.now.table.len c.args.self.now.table.slots.now)) c.new_account.ensures) in
-    record {
-      answer = open_made (store_of c.args.self.now.table.len c.args.self.now.top c.args.self.now.table.slots.now) c.args.number c.if-number-eq0.false (omega arith) (none_at c.args.self.now.table.len c.args.self.now.top c.args.self.now.table.slots.now c.args.self.now.fits c.args.self.now.sound _ _ (c.in-Err.ensures (ok c.args.self.now.table.len c.args.self.now.top c.args.self.now.table.slots.now c.args.self.now.fits c.args.self.now.sound).up) (λ _. 1)) (omega arith);
-      after = o.0;
-    }
+pub returns-then-insert-clause-after : goal.returns-then-insert-clause-after
+returns-then-insert-clause-after c =
+    let s = c.args.self.now in
+    let room : length s.table.records < s.table.capacity = grind (arith, nat_tests, c.if-insert.ensures.done) in
+    let to : Account → Rows Account = λ a. record { records = insert s.table.records c.in-Err.i a; capacity = s.table.capacity } in
+    (opens s.table s.top s.sound c.args.number c.in-Err.i c.insert.new.self (omega arith) (omega arith) (c.in-Err.ensures (ok s.table s.top s.sound).up) room
+    (c.if-insert.ensures.after ∙ ap to c.new_account.ensures)).0
+
+pub returns-else-insert-clause-answer : goal.returns-else-insert-clause-answer
+returns-else-insert-clause-answer c =
+    let s = c.args.self.now in
+    let gap = c.in-Err.ensures (ok s.table s.top s.sound).up in
+    let full : s.table.capacity ≤ length s.table.records = grind (arith, nat_tests, c.if-insert.ensures.done, gap.within) in
+    ap Err c.into-else-insert.ensures
+    ∙ open_full (store_of s.table s.top) c.args.number c.if-number-eq0.false (omega arith) (none_at s.table s.top s.sound _ _ gap (λ _. 1)) full

@@ -1,6 +1,8 @@
-use Rattle.std.proofs.Common.{sym}
-use Rattle.sorted_store.proofs.Slots.{all_at}
+use Rattle.std.proofs.Common.{cond, ap, ◌∙◌}
+use Rattle.sorted_store.proofs.Slots.{found_one}
 use Rattle.sorted_store.proofs.SortedStoreAccountStore.stands.Goals as goal
 
-pub returns-in-Some : goal.returns-in-Some
-returns-in-Some c = sym (all_at c.args.self.now.table.len c.args.self.now.top c.args.self.now.table.slots.now c.args.self.now.fits c.args.self.now.sound c.args.number _ _ c.in-Some.ensures.0 c.in-Some.ensures.1 (λ _. 1))
+pub returns : goal.returns
+returns c =
+    let s = c.args.self.now in
+    ap (λ b. cond b 1 0) c.is_some.ensures ∙ found_one s.table s.top s.sound c.args.number c.find.result c.find.ensures
