@@ -1,2 +1,1 @@
 pub mod Sorted
-pub mod Alike

@@ -2,6 +2,7 @@
 // grants. Assumes nothing of the bytes; no memory is asked for.
 #![tactic(auto)]
 
+mod message;
 mod order;
 mod same;
 

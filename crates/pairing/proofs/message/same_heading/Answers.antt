@@ -4,8 +4,8 @@ use Rattle.std.proofs.lemmas.Bool.Decides.{Decides-eqb}
 use Rattle.std.proofs.lemmas.Bool.{eqb-true}
 use Rattle.terms.specs.declared.Volume.{Volume}
 use Rattle.terms.specs.contracts.VolumePartialEq.TheImpl.{ghosts}
-use Rattle.pairing.proofs.same.same_heading.Goals.{then-height, else-height, then-eq, else-eq}
-use Rattle.pairing.proofs.same.same_heading.Goals as goal
+use Rattle.pairing.proofs.message.same_heading.Goals.{then-height, else-height, then-eq, else-eq}
+use Rattle.pairing.proofs.message.same_heading.Goals as goal
 
 decides : (a b : Volume) → Decides (ghosts.eq a b) (a ≡ b)
 decides a b = search rules
