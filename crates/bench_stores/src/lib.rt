@@ -3,16 +3,21 @@
 // rising order. Nothing is promised of the sums, which only keep the work from being left out. Assumes nothing.
 #![tactic(auto)]
 
+ghost use Rattle.std.specs.Prelude.{◌≤◌};
+
 use accounts::AccountStore;
 use hashed_store::{Entry, HashedStore};
 use sorted_store::SortedStore;
 use terms::Account;
 
-const BLANK: Account = Account {
-    number: 0,
-    floor: 0,
-    balances: [0; 8],
-};
+// What a run does: so many stores, and of each so many look-ups and walks, over numbers in turn or scattered ones.
+#[derive(Clone, Copy)]
+struct Load {
+    repeat: u32,
+    lookups: u32,
+    walks: u32,
+    scattered: bool,
+}
 
 // The number of the i-th account: i itself, or scattered over all numbers. Different for different i, and 0 for 0 alone.
 fn nth(i: u32, scattered: bool) -> u32 {
@@ -28,7 +33,7 @@ fn nth(i: u32, scattered: bool) -> u32 {
 fn open_all<S: AccountStore>(store: &mut S, count: u32, scattered: bool) -> u64 {
     let mut opened: u64 = 0;
     for i in 0..count {
-        if let Ok(_) = store.open(nth(i.wrapping_add(1), scattered)) {
+        if store.open(nth(i.wrapping_add(1), scattered)).is_ok() {
             opened = opened.wrapping_add(1);
         }
     }
@@ -52,70 +57,95 @@ fn walk<S: AccountStore>(store: &S, times: u32) -> u64 {
     for _ in 0..times {
         let mut at = 0;
         for _ in 0..store.count() {
-            match store.next(at) {
-                Some(n) => at = n,
-                None => break,
-            }
+            let Some(n) = store.next(at) else {
+                break;
+            };
+            at = n;
             sum = sum.wrapping_add(at as u64);
         }
     }
     sum
 }
 
-fn exercise<S: AccountStore>(store: &mut S, lookups: u32, walks: u32, scattered: bool) -> u64 {
+fn exercise<S: AccountStore>(store: &mut S, load: Load) -> u64 {
     let count = store.capacity();
-    open_all(store, count, scattered)
-        .wrapping_add(look_up(store, count, lookups, scattered))
-        .wrapping_add(walk(store, walks))
+    open_all(store, count, load.scattered)
+        .wrapping_add(look_up(store, count, load.lookups, load.scattered))
+        .wrapping_add(walk(store, load.walks))
 }
 
-fn sorted(slots: &mut [Account], repeat: u32, lookups: u32, walks: u32, scattered: bool) -> u64 {
+fn exercise_sorted(slots: &mut [Account], load: Load) -> u64 {
     let mut sum: u64 = 0;
-    for _ in 0..repeat {
-        let mut store = SortedStore::new(&mut *slots, 4_294_967_295);
-        sum = sum.wrapping_add(exercise(&mut store, lookups, walks, scattered));
+    for _ in 0..load.repeat {
+        let mut store = SortedStore::new(&mut *slots, u32::MAX);
+        sum = sum.wrapping_add(exercise(&mut store, load));
     }
     sum
 }
 
-fn hashed(
-    slots: &mut [Account],
-    index: &mut [Entry],
-    repeat: u32,
-    lookups: u32,
-    walks: u32,
-    scattered: bool,
-) -> u64 {
+fn exercise_hashed(slots: &mut [Account], index: &mut [Entry], load: Load) -> u64 {
     let mut sum: u64 = 0;
-    for _ in 0..repeat {
-        let mut store = HashedStore::new(&mut *slots, &mut *index, 4_294_967_295);
-        sum = sum.wrapping_add(exercise(&mut store, lookups, walks, scattered));
+    for _ in 0..load.repeat {
+        let mut store = HashedStore::new(&mut *slots, &mut *index, u32::MAX);
+        sum = sum.wrapping_add(exercise(&mut store, load));
     }
     sum
+}
+
+// Sorted stores of N slots.
+fn sorted<const N: usize>(load: Load) -> u64
+    requires { N ≤ 65536 }
+{
+    exercise_sorted(&mut [Account::default(); N], load)
+}
+
+// Hashed stores of N slots, with M entries in their index.
+fn hashed<const N: usize, const M: usize>(load: Load) -> u64
+    requires { (N ≤ 65536) × (M ≤ 196608) }
+{
+    exercise_hashed(
+        &mut [Account::default(); N],
+        &mut [Entry::default(); M],
+        load,
+    )
 }
 
 #[unsafe(no_mangle)]
 pub extern "C" fn sorted_small(repeat: u32, lookups: u32, walks: u32, scattered: bool) -> u64 {
-    let mut slots = [BLANK; 256];
-    sorted(&mut slots, repeat, lookups, walks, scattered)
+    sorted::<256>(Load {
+        repeat,
+        lookups,
+        walks,
+        scattered,
+    })
 }
 
 #[unsafe(no_mangle)]
 pub extern "C" fn sorted_large(repeat: u32, lookups: u32, walks: u32, scattered: bool) -> u64 {
-    let mut slots = [BLANK; 65_536];
-    sorted(&mut slots, repeat, lookups, walks, scattered)
+    sorted::<65_536>(Load {
+        repeat,
+        lookups,
+        walks,
+        scattered,
+    })
 }
 
 #[unsafe(no_mangle)]
 pub extern "C" fn hashed_small(repeat: u32, lookups: u32, walks: u32, scattered: bool) -> u64 {
-    let mut slots = [BLANK; 256];
-    let mut index = [Entry { number: 0, slot: 0 }; 768];
-    hashed(&mut slots, &mut index, repeat, lookups, walks, scattered)
+    hashed::<256, 768>(Load {
+        repeat,
+        lookups,
+        walks,
+        scattered,
+    })
 }
 
 #[unsafe(no_mangle)]
 pub extern "C" fn hashed_large(repeat: u32, lookups: u32, walks: u32, scattered: bool) -> u64 {
-    let mut slots = [BLANK; 65_536];
-    let mut index = [Entry { number: 0, slot: 0 }; 196_608];
-    hashed(&mut slots, &mut index, repeat, lookups, walks, scattered)
+    hashed::<65_536, 196_608>(Load {
+        repeat,
+        lookups,
+        walks,
+        scattered,
+    })
 }

@@ -1,6 +1,6 @@
 -- Slots, order and buckets of a hashed store: what a probe's answer says of the accounts, and what an opening and a
 -- write leave. Assumes nothing.
-use Rattle.std.proofs.Common.{◌≡◌, ℕ, zero, suc, ◌+◌, ◌<◌, ◌≤◌, Bool, true, false, cond, eqb, ltb, List, [], ◌∷◌, map, length, get_or, take, drop, set, sum_by, sym, refl, ap, ◌∙◌, subst, inl, inr, arith}
+use Rattle.std.proofs.Common.{◌≡◌, ℕ, zero, suc, ◌+◌, ◌<◌, ◌≤◌, Bool, Some, None, Option, MatchOption, true, false, cond, eqb, ltb, List, [], ◌∷◌, map, length, get_or, take, drop, set, sum_by, sym, refl, ap, ◌∙◌, subst, inl, inr, arith}
 use Rattle.std.specs.List.{insert, AllByRecursion}
 use Rattle.std.proofs.lemmas.List.{length-map, length-set, length-take-le, get_or-map, get_or_default, get_or-set_same, get_or-set_other, get_or-take, take-set-le}
 use Rattle.std.proofs.lemmas.List.Sums.{sum_by-cons, sum_by-append, sum_by-take-drop, sum_by_more, sum_by-set}
@@ -18,8 +18,11 @@ use Rattle.accounts.specs.Changes.{Opened, BalanceSet, FloorSet}
 use Rattle.accounts.proofs.Sound.{SoundStore, store_parts, account_parts}
 use Rattle.accounts.proofs.Edits.{same_one, store_is, with_accounts, fresh, with_balance, with_floor, opened, balance_set, floor_set}
 use Rattle.hashed_store.specs.declared.entry.Entry.{Entry}
-use Rattle.hashed_store.specs.Index.{number, tag, blank, lying, store_of, laid, taken, Lies}
-use Rattle.hashed_store.specs.Probing.{has}
+use Rattle.hashed_store.specs.Index.{number, tag, blank, lying, store_of, laid, taken, Lies, Found}
+use Rattle.hashed_store.specs.declared.probe.Probe.{Probe}
+use Rattle.hashed_store.specs.declared.probe.Probe.TheVariants.{Held, Free, Full}
+use Rattle.hashed_store.specs.Probing.{has, seen, turned, Probed}
+use Rattle.std.specs.Option.{is_some}
 
 -- lists and sums
 
@@ -188,16 +191,20 @@ module _ (slots : List Account) where
       ∙ ap (λ l. cond (lower k (tag e)) (tag e) l) (above_lying es k m.1)
 
 -- a hashed store: its top, slots, buckets and entries
-module _ (top len : ℕ) (slots : List Account) (buckets es : List Entry) (count : length es ≡ len) (sound : sound_store (store_of top slots es) ≡ true)
-    (laid_all : every (laid len slots) es ≡ true) (linked : (f : Entry → ℕ) → sum_by (taken f) buckets ≡ sum_by f es) where
+module _ (top : ℕ) (slots : List Account) (buckets es : List Entry) (sound : sound_store (store_of top slots es) ≡ true)
+    (laid_all : every (laid (length es) slots) es ≡ true) (linked : (f : Entry → ℕ) → sum_by (taken f) buckets ≡ sum_by f es) where
   pub ok : SoundStore (store_of top slots es)
   ok = store_parts (store_of top slots es) sound
 
-  laid_each : AllByRecursion (λ e. laid len slots e ≡ true) es
-  laid_each = every_all (laid len slots) es laid_all
+  laid_each : AllByRecursion (λ e. laid (length es) slots e ≡ true) es
+  laid_each = every_all (laid (length es) slots) es laid_all
 
   matches : AllByRecursion (Match slots) es
-  matches = All-weaker _ _ (λ e q. eqb-true _ _ (and_parts (ltb e.slot len) _ q).1) es laid_each
+  matches = All-weaker _ _ (λ e q. eqb-true _ _ (and_parts (ltb e.slot (length es)) _ q).1) es laid_each
+
+  -- no more entries than slots
+  pub few_entries : length es ≤ length slots
+  few_entries = omega (arith, ok.few, length-map es (lying slots))
 
   pub up : Rising tag es
   up = rising_tags slots es matches ok.up
@@ -256,14 +263,14 @@ module _ (top len : ℕ) (slots : List Account) (buckets es : List Entry) (count
   none_free full = sym (all_taken buckets full) ∙ linked (λ _. 1) ∙ sum_by_ones es
 
   module _ (n s : ℕ) (a : Account) (lies : Lies slots es n s a) where
-    laid_here : laid len slots lies.entry ≡ true
-    laid_here = subst (λ e. laid len slots e ≡ true) (sym lies.is) (All-get_or (λ e. laid len slots e ≡ true) es lies.place lies.entry lies.within laid_each)
+    laid_here : laid (length es) slots lies.entry ≡ true
+    laid_here = subst (λ e. laid (length es) slots e ≡ true) (sym lies.is) (All-get_or (λ e. laid (length es) slots e ≡ true) es lies.place lies.entry lies.within laid_each)
 
-    pub slot_below : s < len
-    slot_below = omega (arith, ltb-true _ _ (and_parts (ltb lies.entry.slot len) _ laid_here).0, lies.slot)
+    pub slot_below : s < (length es)
+    slot_below = omega (arith, ltb-true _ _ (and_parts (ltb lies.entry.slot (length es)) _ laid_here).0, lies.slot)
 
     numbered : a.number ≡ n
-    numbered = ap (λ b. b.number) lies.account ∙ eqb-true _ _ (and_parts (ltb lies.entry.slot len) _ laid_here).1 ∙ lies.number
+    numbered = ap (λ b. b.number) lies.account ∙ eqb-true _ _ (and_parts (ltb lies.entry.slot (length es)) _ laid_here).1 ∙ lies.number
 
     pub all_of_it : (f : Account → ℕ) → under name f (map (lying slots) es) (n ∷ []) ≡ f a
     all_of_it f =
@@ -282,7 +289,7 @@ module _ (top len : ℕ) (slots : List Account) (buckets es : List Entry) (count
         ∙ (account_parts top (get_or (map (lying slots) es) lies.place a) (All-get_or (λ b. fit_account top b ≡ true) (map (lying slots) es) lies.place a (omega (arith, length-map es (lying slots), lies.within)) ok.fit)).eight
 
     -- the account is written over by one of its number
-    module _ (y : Account) (kept : y.number ≡ a.number) (fits : len ≤ length slots) where
+    module _ (y : Account) (kept : y.number ≡ a.number) (fits : (length es) ≤ length slots) where
       changed : map (lying (set slots s y)) es ≡ set (map (lying slots) es) lies.place y
       changed =
           map_set_one slots s y es lies.place lies.entry (omega (arith, slot_below)) lies.within
@@ -300,19 +307,19 @@ module _ (top len : ℕ) (slots : List Account) (buckets es : List Entry) (count
             | inr ne ↦ ap (λ b. b.number) (elsewhere slots s y e ne)
           ]
 
-      pub laid_after : every (laid len (set slots s y)) es ≡ true
+      pub laid_after : every (laid (length es) (set slots s y)) es ≡ true
       laid_after =
-          all_every (laid len (set slots s y)) es
-          (All-weaker _ _ (λ e q. let p = and_parts (ltb e.slot len) _ q in and_from _ _ p.0 (eq-eqb _ _ (same_number e ∙ eqb-true _ _ p.1))) es laid_each)
+          all_every (laid (length es) (set slots s y)) es
+          (All-weaker _ _ (λ e q. let p = and_parts (ltb e.slot (length es)) _ q in and_from _ _ p.0 (eq-eqb _ _ (same_number e ∙ eqb-true _ _ p.1))) es laid_each)
 
-      pub sums_after : ((f : Account → ℕ) → sum_by f (take len slots) ≡ sum_by f (map (lying slots) es)) → (f : Account → ℕ) → sum_by f (take len (set slots s y)) ≡ sum_by f (map (lying (set slots s y)) es)
+      pub sums_after : ((f : Account → ℕ) → sum_by f (take (length es) slots) ≡ sum_by f (map (lying slots) es)) → (f : Account → ℕ) → sum_by f (take (length es) (set slots s y)) ≡ sum_by f (map (lying (set slots s y)) es)
       sums_after sums f =
-          let old : f (get_or (take len slots) s a) ≡ f (get_or (map (lying slots) es) lies.place a) =
-          ap f (get_or-take len slots s a slot_below ∙ get_or_default slots s a blank (omega (arith, slot_below)) ∙ ap (λ k. get_or slots k blank) (sym lies.slot) ∙ sym lies.account ∙ row) in
+          let old : f (get_or (take (length es) slots) s a) ≡ f (get_or (map (lying slots) es) lies.place a) =
+          ap f (get_or-take (length es) slots s a slot_below ∙ get_or_default slots s a blank (omega (arith, slot_below)) ∙ ap (λ k. get_or slots k blank) (sym lies.slot) ∙ sym lies.account ∙ row) in
           omega (
             arith,
-            ap (sum_by f) (put_is slots len s y slot_below),
-            sum_by-set f (take len slots) s y a (omega (arith, length-take-le len slots fits, slot_below)),
+            ap (sum_by f) (put_is slots (length es) s y slot_below),
+            sum_by-set f (take (length es) slots) s y a (omega (arith, length-take-le (length es) slots fits, slot_below)),
             ap (sum_by f) changed,
             sum_by-set f (map (lying slots) es) lies.place y a (omega (arith, length-map es (lying slots), lies.within)),
             sums f,
@@ -322,13 +329,13 @@ module _ (top len : ℕ) (slots : List Account) (buckets es : List Entry) (count
       store_after : store_of top (set slots s y) es ≡ with_accounts (store_of top slots es) (set (map (lying slots) es) lies.place y)
       store_after = store_is (with_accounts (store_of top slots es) (set (map (lying slots) es) lies.place y)) (store_of top (set slots s y) es) (length-set slots s y) refl changed
 
-    pub sets_balance : (x v : ℕ) → len ≤ length slots → x < 8 → v < 68719476736
+    pub sets_balance : (x v : ℕ) → (length es) ≤ length slots → x < 8 → v < 68719476736
         → BalanceSet (store_of top slots es) n x v (store_of top (set slots s (with_balance a x v)) es) × (sound_store (store_of top (set slots s (with_balance a x v)) es) ≡ true)
     sets_balance x v fits xs vs =
         subst (λ t. BalanceSet (store_of top slots es) n x v t × (sound_store t ≡ true)) (sym (store_after (with_balance a x v) refl fits))
         (balance_set (store_of top slots es) n x v lies.place a ok (omega (arith, length-map es (lying slots), lies.within)) row numbered xs vs)
 
-    pub sets_floor : (v : ℕ) → len ≤ length slots → v < 4294967296
+    pub sets_floor : (v : ℕ) → (length es) ≤ length slots → v < 4294967296
         → FloorSet (store_of top slots es) n v (store_of top (set slots s (with_floor a v)) es) × (sound_store (store_of top (set slots s (with_floor a v)) es) ≡ true)
     sets_floor v fits vs =
         subst (λ t. FloorSet (store_of top slots es) n v t × (sound_store t ≡ true)) (sym (store_after (with_floor a v) refl fits))
@@ -341,17 +348,17 @@ module _ (top len : ℕ) (slots : List Account) (buckets es : List Entry) (count
       all_of_it n (get_or buckets j none).slot (lying slots (get_or buckets j none)) (held n j (get_or buckets j none) pos lt e (get_or_default buckets j none (get_or buckets j none) lt)) (λ _. 1)
 
   -- a new account n in the next slot, with the bucket j and the place i in the order
-  module _ (n i j : ℕ) (e : Entry) (num : e.number ≡ n) (at : e.slot ≡ len) (pos : 0 < n) (room : len < length slots) (gap : Gap tag es (n ∷ []) i) where
-    before : AllByRecursion (λ x. lying (set slots len (fresh n)) x ≡ lying slots x) es
-    before = All-weaker _ _ (λ x q. elsewhere slots len (fresh n) x (λ h. omega (arith, ltb-true _ _ (and_parts (ltb x.slot len) _ q).0))) es laid_each
+  module _ (n i j : ℕ) (e : Entry) (num : e.number ≡ n) (at : e.slot ≡ (length es)) (pos : 0 < n) (room : (length es) < length slots) (gap : Gap tag es (n ∷ []) i) where
+    before : AllByRecursion (λ x. lying (set slots (length es) (fresh n)) x ≡ lying slots x) es
+    before = All-weaker _ _ (λ x q. elsewhere slots (length es) (fresh n) x (λ h. omega (arith, ltb-true _ _ (and_parts (ltb x.slot (length es)) _ q).0))) es laid_each
 
-    new_one : lying (set slots len (fresh n)) e ≡ fresh n
-    new_one = ap (λ k. get_or (set slots len (fresh n)) k blank) at ∙ get_or-set_same slots len (fresh n) blank room
+    new_one : lying (set slots (length es) (fresh n)) e ≡ fresh n
+    new_one = ap (λ k. get_or (set slots (length es) (fresh n)) k blank) at ∙ get_or-set_same slots (length es) (fresh n) blank room
 
-    grown : map (lying (set slots len (fresh n))) (insert es i e) ≡ insert (map (lying slots) es) i (fresh n)
+    grown : map (lying (set slots (length es) (fresh n))) (insert es i e) ≡ insert (map (lying slots) es) i (fresh n)
     grown =
-        map_inserted (lying (set slots len (fresh n))) es i e
-        ∙ ap (λ l. insert l i (lying (set slots len (fresh n)) e)) (map_same _ _ es before)
+        map_inserted (lying (set slots (length es) (fresh n))) es i e
+        ∙ ap (λ l. insert l i (lying (set slots (length es) (fresh n)) e)) (map_same _ _ es before)
         ∙ ap (λ a. insert (map (lying slots) es) i a) new_one
 
     gap_accounts : Gap name (map (lying slots) es) (n ∷ []) i
@@ -364,18 +371,18 @@ module _ (top len : ℕ) (slots : List Account) (buckets es : List Entry) (count
               (all_2 _ (λ x m q. subst (λ k. lower (n ∷ []) (k ∷ []) ≡ true) (sym m) q) (drop i es) (All-drop _ i es matches) gap.high);
         }
 
-    pub opens : n ≤ top → Opened (store_of top slots es) n (store_of top (set slots len (fresh n)) (insert es i e)) × (sound_store (store_of top (set slots len (fresh n)) (insert es i e)) ≡ true)
+    pub opens : n ≤ top → Opened (store_of top slots es) n (store_of top (set slots (length es) (fresh n)) (insert es i e)) × (sound_store (store_of top (set slots (length es) (fresh n)) (insert es i e)) ≡ true)
     opens le =
         subst (λ t. Opened (store_of top slots es) n t × (sound_store t ≡ true))
-        (sym (store_is (with_accounts (store_of top slots es) (insert (map (lying slots) es) i (fresh n))) (store_of top (set slots len (fresh n)) (insert es i e)) (length-set slots len (fresh n)) refl grown))
+        (sym (store_is (with_accounts (store_of top slots es) (insert (map (lying slots) es) i (fresh n))) (store_of top (set slots (length es) (fresh n)) (insert es i e)) (length-set slots (length es) (fresh n)) refl grown))
         (opened (store_of top slots es) n i ok pos le gap_accounts (omega (arith, length-map es (lying slots))))
 
-    pub laid_new : every (laid (len + 1) (set slots len (fresh n))) (insert es i e) ≡ true
+    pub laid_new : every (laid ((length es) + 1) (set slots (length es) (fresh n))) (insert es i e) ≡ true
     laid_new =
         all_every _ (insert es i e)
         (all_inserted _ es i e
         (and_from _ _ (lt-ltb _ _ (omega arith)) (eq-eqb _ _ (ap (λ a. a.number) new_one ∙ sym num)))
-        (all_2 _ (λ x b q. let p = and_parts (ltb x.slot len) _ q in
+        (all_2 _ (λ x b q. let p = and_parts (ltb x.slot (length es)) _ q in
         and_from _ _ (lt-ltb _ _ (omega (arith, ltb-true _ _ p.0))) (eq-eqb _ _ (ap (λ a. a.number) b ∙ eqb-true _ _ p.1))) es before laid_each))
 
     pub linked_new : j < length buckets → get_or (map number buckets) j 0 ≡ 0 → (f : Entry → ℕ) → sum_by (taken f) (set buckets j e) ≡ sum_by f (insert es i e)
@@ -385,14 +392,31 @@ module _ (top len : ℕ) (slots : List Account) (buckets es : List Entry) (count
         let new : taken f e ≡ f e = cond-false _ 0 _ (ne_eqb _ _ ne) in
         omega (arith, sum_by-set (taken f) buckets j e e lt, old, new, linked f, sum_by_inserted f es i e)
 
-    pub sums_new : ((f : Account → ℕ) → sum_by f (take len slots) ≡ sum_by f (map (lying slots) es)) → (f : Account → ℕ) → sum_by f (take (len + 1) (set slots len (fresh n))) ≡ sum_by f (map (lying (set slots len (fresh n))) (insert es i e))
+    pub sums_new : ((f : Account → ℕ) → sum_by f (take (length es) slots) ≡ sum_by f (map (lying slots) es)) → (f : Account → ℕ) → sum_by f (take ((length es) + 1) (set slots (length es) (fresh n))) ≡ sum_by f (map (lying (set slots (length es) (fresh n))) (insert es i e))
     sums_new sums f =
         omega (
           arith,
-          sum_by_more f (set slots len (fresh n)) len blank (omega (arith, length-set slots len (fresh n))),
-          ap f (get_or-set_same slots len (fresh n) blank room),
-          ap (sum_by f) (take-set-le len slots len (fresh n) (omega arith)),
+          sum_by_more f (set slots (length es) (fresh n)) (length es) blank (omega (arith, length-set slots (length es) (fresh n))),
+          ap f (get_or-set_same slots (length es) (fresh n) blank room),
+          ap (sum_by f) (take-set-le (length es) slots (length es) (fresh n) (omega arith)),
           sums f,
           ap (sum_by f) grown,
           sum_by_inserted f (map (lying slots) es) i (fresh n),
         )
+
+  -- what the answer of a search says of an account
+  pub found_is : (n : ℕ) (o : Option (ℕ × Account)) → Found slots es n o → (f : Account → ℕ) (r : ℕ) → MatchOption o (r ≡ 0) (λ p. r ≡ f p.1)
+      → r ≡ under name f (map (lying slots) es) (n ∷ [])
+  found_is n None none f r e = e ∙ sym (none f)
+  found_is n (Some p) lies f r e = e ∙ sym (all_of_it n p.0 p.1 lies f)
+
+  pub found_one : (n : ℕ) (o : Option (ℕ × Account)) → Found slots es n o → cond (is_some o) 1 0 ≡ under name (λ _. 1) (map (lying slots) es) (n ∷ [])
+  found_one n None none = sym (none (λ _. 1))
+  found_one n (Some p) lies = sym (all_of_it n p.0 p.1 lies (λ _. 1))
+
+  -- where a probe for n does not end at a bucket that holds it, nothing stands under n
+  pub none_probed : (n h : ℕ) (r : Probe) → 0 < n → seen n (turned h (map number buckets)) ≡ has n (map number buckets) → Probed n h buckets r → ((j : ℕ) → r ≡ Held j → ⊥)
+      → (f : Account → ℕ) → under name f (map (lying slots) es) (n ∷ []) ≡ 0
+  none_probed n h (Held j) pos s p un = absurd (un j refl)
+  none_probed n h (Free j) pos s p un = none_of n pos (sym s ∙ p.2)
+  none_probed n h Full pos s p un = none_of n pos (sym s ∙ p.0)

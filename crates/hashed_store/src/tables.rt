@@ -1,6 +1,6 @@
 // The lent memory of a hashed store: slots for accounts, buckets that a hash of the number leads to, and the order
 // of the numbers. What it means, and that its parts agree, is said by the store around it. Assumes nothing.
-ghost use Rattle.std.specs.Prelude.{◌≡◌, ℕ, ◌+◌, ◌-◌, ◌*◌, ◌/◌, ◌<◌, ◌≤◌, ◌&&◌, List, map, length, take, if◌then◌else◌, nat_le, nat_lt, slice_index_or, slice_set};
+ghost use Rattle.std.specs.Prelude.{◌≡◌, ℕ, ◌+◌, ◌-◌, ◌*◌, ◌/◌, ◌<◌, ◌≤◌, ◌&&◌, length, if◌then◌else◌, nat_le, nat_lt, slice_index_or, slice_set};
 ghost use Rattle.std.specs.List.{insert};
 ghost use Rattle.hashed_store.specs.Probing.{start, Probed};
 
@@ -98,8 +98,7 @@ impl<'a> Tables<'a> {
         requires { s < length self.old.slots.now }
         ensures slots { self.new.slots.now ≡ slice_set self.old.slots.now s account }
         ensures buckets { self.new.buckets.now ≡ self.old.buckets.now }
-        ensures len { self.new.order.len ≡ self.old.order.len }
-        ensures order { self.new.order.slots.now ≡ self.old.order.slots.now }
+        ensures order { self.new.order ≡ self.old.order }
     {
         self.slots[s] = account;
     }
@@ -109,9 +108,7 @@ impl<'a> Tables<'a> {
         requires { (s < length self.old.slots.now) × (j < length self.old.buckets.now) }
         ensures slots { self.new.slots.now ≡ slice_set self.old.slots.now s account }
         ensures buckets { self.new.buckets.now ≡ slice_set self.old.buckets.now j entry }
-        ensures len { self.new.order.len ≡ (if nat_le at self.old.order.len && nat_lt self.old.order.len (length self.old.order.slots.now) then self.old.order.len + 1 else self.old.order.len) }
-        ensures fits { length self.new.order.slots.now ≡ length self.old.order.slots.now }
-        ensures order { take self.new.order.len self.new.order.slots.now ≡ (if nat_le at self.old.order.len && nat_lt self.old.order.len (length self.old.order.slots.now) then insert (take self.old.order.len self.old.order.slots.now) at entry else take self.old.order.len self.old.order.slots.now) }
+        ensures order { self.new.order ≡ (if nat_le at (length self.old.order.records) && nat_lt (length self.old.order.records) self.old.order.capacity then record { records = insert self.old.order.records at entry; capacity = self.old.order.capacity } else self.old.order) }
     {
         self.slots[s] = account;
         self.buckets[j] = entry;

@@ -1,7 +1,6 @@
-use Rattle.std.proofs.Common.{get_or, take, sym, ◌∙◌}
-use Rattle.std.proofs.lemmas.List.{length-take-le}
-use Rattle.hashed_store.proofs.Links.{all_of_it}
+use Rattle.std.proofs.Common.{get_or, rules}
+use Rattle.hashed_store.proofs.Links.{found_is}
 use Rattle.hashed_store.proofs.HashedStoreAccountStore.balance.Goals as goal
 
-pub returns-in-Some : goal.returns-in-Some
-returns-in-Some c = c.amount.ensures ∙ sym (all_of_it c.args.self.now.top c.args.self.now.tables.order.len c.args.self.now.tables.slots.now c.args.self.now.tables.buckets.now (take c.args.self.now.tables.order.len c.args.self.now.tables.order.slots.now) (length-take-le c.args.self.now.tables.order.len c.args.self.now.tables.order.slots.now c.args.self.now.fits) c.args.self.now.sound c.args.self.now.laid c.args.self.now.linked c.args.number _ _ c.in-Some.ensures (λ a. get_or a.balances c.args.asset 0))
+pub returns : goal.returns
+returns c = let s = c.args.self.now in found_is s.top s.tables.slots.now s.tables.buckets.now s.tables.order.records s.sound s.laid s.linked c.args.number c.find.result c.find.ensures (λ a. get_or a.balances c.args.asset 0) c.map_or.result (search rules)

@@ -1,28 +1,38 @@
-use Rattle.std.proofs.Common.{take, refl, arith}
-use Rattle.std.proofs.lemmas.List.{length-take-le}
-use Rattle.hashed_store.specs.Index.{store_of}
+use Rattle.std.proofs.Common.{refl, ap, ◌∙◌, subst, arith}
+use Rattle.std.specs.Result.{result_ok}
 use Rattle.accounts.specs.Changes.{FloorSet}
 use Rattle.accounts.proofs.Edits.{with_floor}
 use Rattle.accounts.proofs.Replies.{floor_made}
-use Rattle.hashed_store.proofs.Links.{all_of_it, slot_below, sets_floor}
+use Rattle.hashed_store.specs.Index.{store_of, Found}
+use Rattle.hashed_store.proofs.Links.{all_of_it, slot_below, sets_floor, few_entries}
 use Rattle.hashed_store.proofs.Stores.{wrote}
 use Rattle.hashed_store.proofs.HashedStoreAccountStore.set_floor.Goals as goal
 
 pub write-requires : goal.write-requires
-write-requires c = omega (arith, slot_below c.args.self.now.top c.args.self.now.tables.order.len c.args.self.now.tables.slots.now c.args.self.now.tables.buckets.now (take c.args.self.now.tables.order.len c.args.self.now.tables.order.slots.now) (length-take-le c.args.self.now.tables.order.len c.args.self.now.tables.order.slots.now c.args.self.now.fits) c.args.self.now.sound c.args.self.now.laid c.args.self.now.linked c.args.number c.in-Some.s c.in-Some.a c.in-Some.ensures, c.args.self.now.fits, c.args.self.now.even)
+write-requires c =
+    let s = c.args.self.now in
+    let lies = subst (Found s.tables.slots.now s.tables.order.records c.args.number) (c.ok_or.ensures.ok_part ∙ ap result_ok c.in_ok-s.was) c.find.ensures in
+    omega (arith, slot_below s.top s.tables.slots.now s.tables.buckets.now s.tables.order.records s.sound s.laid s.linked c.args.number c.in_ok-s.s c.in_ok-s.account lies, few_entries s.top s.tables.slots.now s.tables.buckets.now s.tables.order.records s.sound s.laid s.linked)
 
 pub invariant_of-self : goal.invariant_of-self
 invariant_of-self c =
-    let w = wrote c.args.self.now.top c.args.self.now.tables.order.len c.args.self.now.tables.slots.now c.args.self.now.tables.buckets.now c.args.self.now.tables.order.slots.now (record { fits = c.args.self.now.fits; even = c.args.self.now.even; roomy = c.args.self.now.roomy; parts = record { laid_all = c.args.self.now.laid; linked = c.args.self.now.linked; finds = c.args.self.now.finds; sums = c.args.self.now.sums; sound = c.args.self.now.sound } }) (λ t. FloorSet (store_of c.args.self.now.top c.args.self.now.tables.slots.now (take c.args.self.now.tables.order.len c.args.self.now.tables.order.slots.now)) c.args.number c.args.value t) c.args.number c.in-Some.s c.in-Some.a (with_floor c.in-Some.a c.args.value) c.in-Some.ensures refl
-    (sets_floor c.args.self.now.top c.args.self.now.tables.order.len c.args.self.now.tables.slots.now c.args.self.now.tables.buckets.now (take c.args.self.now.tables.order.len c.args.self.now.tables.order.slots.now) (length-take-le c.args.self.now.tables.order.len c.args.self.now.tables.order.slots.now c.args.self.now.fits) c.args.self.now.sound c.args.self.now.laid c.args.self.now.linked c.args.number c.in-Some.s c.in-Some.a c.in-Some.ensures c.args.value (omega (arith, c.args.self.now.fits, c.args.self.now.even)) (omega arith))
-    c.write.new.self.order.len c.write.new.self.slots.now c.write.new.self.buckets.now c.write.new.self.order.slots.now
-    c.write.ensures.slots c.write.ensures.buckets c.write.ensures.len c.write.ensures.order in
-    record { fits = w.1.fits; even = w.1.even; roomy = w.1.roomy; laid = w.1.parts.laid_all; linked = w.1.parts.linked; finds = w.1.parts.finds; sums = w.1.parts.sums; sound = w.1.parts.sound }
+    let s = c.args.self.now in
+    let lies = subst (Found s.tables.slots.now s.tables.order.records c.args.number) (c.ok_or.ensures.ok_part ∙ ap result_ok c.in_ok-s.was) c.find.ensures in
+    let w = wrote s.top s.tables.slots.now s.tables.buckets.now s.tables.order (record { even = s.even; roomy = s.roomy; parts = record { laid_all = s.laid; linked = s.linked; finds = s.finds; sums = s.sums; sound = s.sound } }) (FloorSet (store_of s.top s.tables.slots.now s.tables.order.records) c.args.number c.args.value) c.args.number c.in_ok-s.s c.in_ok-s.account (with_floor c.in_ok-s.account c.args.value) lies refl
+    (sets_floor s.top s.tables.slots.now s.tables.buckets.now s.tables.order.records s.sound s.laid s.linked c.args.number c.in_ok-s.s c.in_ok-s.account lies c.args.value (few_entries s.top s.tables.slots.now s.tables.buckets.now s.tables.order.records s.sound s.laid s.linked) (omega arith))
+    c.write.new.self.slots.now c.write.new.self.buckets.now c.write.new.self.order c.write.ensures.slots c.write.ensures.buckets c.write.ensures.order in
+    record { even = w.1.even; roomy = w.1.roomy; laid = w.1.parts.laid_all; linked = w.1.parts.linked; finds = w.1.parts.finds; sums = w.1.parts.sums; sound = w.1.parts.sound }
 
-pub returns-in-Some : goal.returns-in-Some
-returns-in-Some c =
-    let w = wrote c.args.self.now.top c.args.self.now.tables.order.len c.args.self.now.tables.slots.now c.args.self.now.tables.buckets.now c.args.self.now.tables.order.slots.now (record { fits = c.args.self.now.fits; even = c.args.self.now.even; roomy = c.args.self.now.roomy; parts = record { laid_all = c.args.self.now.laid; linked = c.args.self.now.linked; finds = c.args.self.now.finds; sums = c.args.self.now.sums; sound = c.args.self.now.sound } }) (λ t. FloorSet (store_of c.args.self.now.top c.args.self.now.tables.slots.now (take c.args.self.now.tables.order.len c.args.self.now.tables.order.slots.now)) c.args.number c.args.value t) c.args.number c.in-Some.s c.in-Some.a (with_floor c.in-Some.a c.args.value) c.in-Some.ensures refl
-    (sets_floor c.args.self.now.top c.args.self.now.tables.order.len c.args.self.now.tables.slots.now c.args.self.now.tables.buckets.now (take c.args.self.now.tables.order.len c.args.self.now.tables.order.slots.now) (length-take-le c.args.self.now.tables.order.len c.args.self.now.tables.order.slots.now c.args.self.now.fits) c.args.self.now.sound c.args.self.now.laid c.args.self.now.linked c.args.number c.in-Some.s c.in-Some.a c.in-Some.ensures c.args.value (omega (arith, c.args.self.now.fits, c.args.self.now.even)) (omega arith))
-    c.write.new.self.order.len c.write.new.self.slots.now c.write.new.self.buckets.now c.write.new.self.order.slots.now
-    c.write.ensures.slots c.write.ensures.buckets c.write.ensures.len c.write.ensures.order in
-    record { answer = floor_made (store_of c.args.self.now.top c.args.self.now.tables.slots.now (take c.args.self.now.tables.order.len c.args.self.now.tables.order.slots.now)) c.args.number (all_of_it c.args.self.now.top c.args.self.now.tables.order.len c.args.self.now.tables.slots.now c.args.self.now.tables.buckets.now (take c.args.self.now.tables.order.len c.args.self.now.tables.order.slots.now) (length-take-le c.args.self.now.tables.order.len c.args.self.now.tables.order.slots.now c.args.self.now.fits) c.args.self.now.sound c.args.self.now.laid c.args.self.now.linked c.args.number _ _ c.in-Some.ensures (λ _. 1)); after = w.0 }
+pub returns-clause-after : goal.returns-clause-after
+returns-clause-after c =
+    let s = c.args.self.now in
+    let lies = subst (Found s.tables.slots.now s.tables.order.records c.args.number) (c.ok_or.ensures.ok_part ∙ ap result_ok c.in_ok-s.was) c.find.ensures in
+    (wrote s.top s.tables.slots.now s.tables.buckets.now s.tables.order (record { even = s.even; roomy = s.roomy; parts = record { laid_all = s.laid; linked = s.linked; finds = s.finds; sums = s.sums; sound = s.sound } }) (FloorSet (store_of s.top s.tables.slots.now s.tables.order.records) c.args.number c.args.value) c.args.number c.in_ok-s.s c.in_ok-s.account (with_floor c.in_ok-s.account c.args.value) lies refl
+    (sets_floor s.top s.tables.slots.now s.tables.buckets.now s.tables.order.records s.sound s.laid s.linked c.args.number c.in_ok-s.s c.in_ok-s.account lies c.args.value (few_entries s.top s.tables.slots.now s.tables.buckets.now s.tables.order.records s.sound s.laid s.linked) (omega arith))
+    c.write.new.self.slots.now c.write.new.self.buckets.now c.write.new.self.order c.write.ensures.slots c.write.ensures.buckets c.write.ensures.order).0
+
+pub returns-clause-answer : goal.returns-clause-answer
+returns-clause-answer c =
+    let s = c.args.self.now in
+    let lies = subst (Found s.tables.slots.now s.tables.order.records c.args.number) (c.ok_or.ensures.ok_part ∙ ap result_ok c.in_ok-s.was) c.find.ensures in
+    floor_made (store_of s.top s.tables.slots.now s.tables.order.records) c.args.number (all_of_it s.top s.tables.slots.now s.tables.buckets.now s.tables.order.records s.sound s.laid s.linked c.args.number c.in_ok-s.s c.in_ok-s.account lies (λ _. 1))

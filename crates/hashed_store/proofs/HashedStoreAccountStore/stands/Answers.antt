@@ -1,7 +1,6 @@
-use Rattle.std.proofs.Common.{take, sym}
-use Rattle.std.proofs.lemmas.List.{length-take-le}
-use Rattle.hashed_store.proofs.Links.{all_of_it}
+use Rattle.std.proofs.Common.{cond, ap, ◌∙◌}
+use Rattle.hashed_store.proofs.Links.{found_one}
 use Rattle.hashed_store.proofs.HashedStoreAccountStore.stands.Goals as goal
 
-pub returns-in-Some : goal.returns-in-Some
-returns-in-Some c = sym (all_of_it c.args.self.now.top c.args.self.now.tables.order.len c.args.self.now.tables.slots.now c.args.self.now.tables.buckets.now (take c.args.self.now.tables.order.len c.args.self.now.tables.order.slots.now) (length-take-le c.args.self.now.tables.order.len c.args.self.now.tables.order.slots.now c.args.self.now.fits) c.args.self.now.sound c.args.self.now.laid c.args.self.now.linked c.args.number _ _ c.in-Some.ensures (λ _. 1))
+pub returns : goal.returns
+returns c = let s = c.args.self.now in ap (λ b. cond b 1 0) c.is_some.ensures ∙ found_one s.top s.tables.slots.now s.tables.buckets.now s.tables.order.records s.sound s.laid s.linked c.args.number c.find.result c.find.ensures
