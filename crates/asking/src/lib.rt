@@ -3,7 +3,6 @@
 
 ghost use Rattle.std.specs.Prelude.{◌≡◌};
 ghost use Rattle.exchange.specs.Life.{reply as replies};
-ghost use Rattle.replica.specs.Meaning.{state_of};
 ghost use Rattle.asking.specs.Questions.{question_of, reply_of};
 
 mod questions;
@@ -15,7 +14,7 @@ use replica::Replica;
 
 // The answer to a question.
 pub fn ask<S: AccountStore, B: OfferBook>(replica: &Replica<S, B>, question: Question) -> Reply
-    ensures { reply_of result ≡ replies (state_of (S.store replica.now.store) (B.book replica.now.book) replica.now.numbers) (question_of question) }
+    ensures { reply_of result ≡ replies replica.now (question_of question) }
 {
     match question {
         Question::Height => Reply::Number(replica.height() as u64),
