@@ -13,6 +13,7 @@ use replica::Replica;
 use std::alloc::AllocError;
 use terms::{Account, Key, Offer};
 
+// The assets, by their numbers.
 const ASSETS: [u8; 8] = [0, 1, 2, 3, 4, 5, 6, 7];
 
 // The eight remainders.
@@ -41,7 +42,7 @@ fn account<S: AccountStore, B: OfferBook>(replica: &Replica<S, B>, number: u32) 
     }
 }
 
-// Adds a line for each account, by rising number.
+// Adds a line for each account, by rising number. A replica lends no list: each step asks for the next.
 fn push_accounts<S: AccountStore, B: OfferBook>(
     replica: &Replica<S, B>,
     lines: &mut Vec<Line>,
@@ -57,7 +58,7 @@ fn push_accounts<S: AccountStore, B: OfferBook>(
     Ok(())
 }
 
-// Adds a line for each offer, by rising key.
+// Adds a line for each offer, by rising key, asked for in the same way.
 fn push_offers<S: AccountStore, B: OfferBook>(
     replica: &Replica<S, B>,
     lines: &mut Vec<Line>,

@@ -13,7 +13,7 @@ use replica::Replica;
 use std::alloc::{AllocError, Global};
 use terms::Fault;
 
-// The lines of a stream, and the counts after it.
+// The lines of a stream, and apart from them the line of the counts after it, which `list` leaves out.
 #[derive(Drop)]
 pub struct Listing {
     pub lines: Vec<Line>,

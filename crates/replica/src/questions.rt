@@ -1,5 +1,5 @@
 // The questions that a replica answers: about its own numbers, its store and its book. None changes anything.
-ghost use Rattle.std.specs.Prelude.{◌≡◌, [], ◌∷◌, length, if◌then◌else◌, slice_index, true};
+ghost use Rattle.std.specs.Prelude.{◌≡◌, [], ◌∷◌, length, if◌then◌else◌, true};
 ghost use Rattle.terms.specs.Order.{name, words, place, above};
 ghost use Rattle.terms.specs.Holdings.{sound_store, sound_book, standing, floor_at, balance_at, free_of, amount_at, offered_of, up_to};
 ghost use Rattle.ordered.specs.Places.{told};
@@ -10,13 +10,6 @@ use crate::life::Replica;
 use accounts::AccountStore;
 use offers::OfferBook;
 use terms::Key;
-
-// The amount of an asset: 0 above asset 7.
-fn at(amounts: &[u64; 8], asset: u8) -> u64
-    ensures { result ≡ slice_index amounts.now asset }
-{
-    amounts.get(asset as usize).copied().unwrap_or(0)
-}
 
 impl<S: AccountStore, B: OfferBook> Replica<S, B> {
     // How many blocks have been committed since the founding.
@@ -40,7 +33,11 @@ impl<S: AccountStore, B: OfferBook> Replica<S, B> {
     pub fn remainder(&self, asset: u8) -> u64
         ensures { result ≡ remainder self.now asset }
     {
-        at(&self.numbers.remainders, asset)
+        self.numbers
+            .remainders
+            .get(asset as usize)
+            .copied()
+            .unwrap_or(0)
     }
 
     // How many checks were passed.
