@@ -1,14 +1,15 @@
 -- What a block in the making says of the commands so far, and that one command more keeps it. Assumes nothing.
 use Rattle.std.proofs.Common.{◌≡◌, ℕ, ◌+◌, ◌*◌, ◌<◌, ◌≤◌, Bool, true, false, cond, ltb, List, [], ◌∷◌, ◌++◌, length, take, set, sym, refl, ap, ◌∙◌, subst, arith}
 use Rattle.std.specs.List.{flat_map}
-use Rattle.std.proofs.lemmas.List.{append-nil, take_more_set, length-set}
-use Rattle.std.proofs.lemmas.Bool.{false≢true, eqb-true, ltb-true, ltb-false}
+use Rattle.std.proofs.lemmas.List.{append-nil, take_more_set, length-set, length_push}
+use Rattle.std.proofs.lemmas.Bool.{false≢true, eqb-true, ltb-false}
 use Rattle.std.proofs.lemmas.Bool.Decides.{nat_tests}
 use Rattle.terms.specs.declared.Volume.{Volume}
 use Rattle.terms.specs.declared.Transaction.{Transaction}
 use Rattle.terms.specs.declared.Grant.{Grant}
 use Rattle.terms.specs.Order.{lower}
 use Rattle.terms.specs.Ranges.{is_pair}
+use Rattle.arrayvec.specs.ArrayVec.{array_vec_len}
 use Rattle.blocks.specs.declared.drafted.Draft.{Draft}
 use Rattle.blocks.specs.declared.stage.Stage.{Stage}
 use Rattle.blocks.specs.declared.stage.Stage.TheVariants.{Start, Price, FirstVolume, VolumeAbove, Transactions, Grants}
@@ -59,13 +60,13 @@ Begun Grants h p cs = ⊥
 
 pub record Says (g : Stage) (d : Draft) (cs : List Cmd) : Type 0 where
   pub proper : Proper g
-  pub long : (length d.prices ≡ 8) × (length d.volumes ≡ 56) × (length d.transactions ≡ 1024)
+  pub long : length d.prices ≡ 8
   pub begun : Begun g d.height d.parent cs
   pub priced : flat_map prices cs ≡ take (priced_at g) d.prices
-  pub traded : flat_map volumes cs ≡ take d.pairs d.volumes
-  pub pairs : d.pairs ≤ pairs_at g
-  pub moved : flat_map transactions cs ≡ take d.count d.transactions
-  pub few : d.count ≤ 1024
+  pub traded : flat_map volumes cs ≡ d.volumes.items
+  pub pairs : array_vec_len d.volumes ≤ pairs_at g
+  pub moved : flat_map transactions cs ≡ d.transactions.items
+  pub few : array_vec_len d.transactions ≤ 1024
 
 -- pairs
 
@@ -115,11 +116,10 @@ module _ (d : Draft) (cs : List Cmd) where
       let c = price x p in
       let l : x < 8 = grind (arith, nat_tests) in
       let is : x ≡ y = eqb-true x y m in
-      let more = take_more_set d.prices x p (subst (λ n. x < n) (sym s.long.0) l) in
+      let more = take_more_set d.prices x p (subst (λ n. x < n) (sym s.long) l) in
       let now : flat_map prices (cs ++ c ∷ []) ≡ take (x + 1) (set d.prices x p) =
       joined_push prices cs c ∙ (ap (λ l. l ++ p ∷ []) (s.priced ∙ ap (λ n. take n d.prices) (sym is)) ∙ sym more) in
-      let long : (length (set d.prices x p) ≡ 8) × (length d.volumes ≡ 56) × (length d.transactions ≡ 1024) =
-      (length-set d.prices x p ∙ s.long.0, s.long.1, s.long.2) in
+      let long : length (set d.prices x p) ≡ 8 = length-set d.prices x p ∙ s.long in
       let b = stays c d.height d.parent refl refl s.begun in
       let D = added d c in
       let at : (t : Bool) → ltb x 7 ≡ t → Says (cond t (Price (x + 1)) FirstVolume) D (cs ++ c ∷ []) = λ t. elim t as (λ t. ltb x 7 ≡ t → Says (cond t (Price (x + 1)) FirstVolume) D (cs ++ c ∷ [])) [
@@ -153,19 +153,17 @@ module _ (d : Draft) (cs : List Cmd) where
   -- a volume after volumes of lower pairs, or the first
   module _ (v : Volume) (h : fit (volume v) ≡ true) where
     says_volume_at : (g : Stage) → Proper g → (flat_map heights cs ≡ d.height ∷ []) × (flat_map parents cs ≡ d.parent) → priced_at g ≡ 8
-        → d.pairs + 1 ≤ rank_of v.sold v.bought → is_pair v.sold v.bought ≡ true
+        → array_vec_len d.volumes + 1 ≤ rank_of v.sold v.bought → is_pair v.sold v.bought ≡ true
         → Says g d cs → Says (afterwards (volume v)) (added d (volume v)) (cs ++ volume v ∷ [])
     says_volume_at g k b e r i s =
         let c = volume v in
-        let l : d.pairs < 56 = omega (arith, (rank_bound v.sold v.bought i).1) in
-        let more = take_more_set d.volumes d.pairs v (subst (λ n. d.pairs < n) (sym s.long.1) l) in
         record {
           proper = i;
-          long = (s.long.0, length-set d.volumes d.pairs v ∙ s.long.1, s.long.2);
+          long = s.long;
           begun = stays c d.height d.parent refl refl b;
           priced = none prices cs c refl ∙ (s.priced ∙ ap (λ n. take n d.prices) e);
-          traded = joined_push volumes cs c ∙ (ap (λ l. l ++ v ∷ []) s.traded ∙ sym more);
-          pairs = r;
+          traded = joined_push volumes cs c ∙ ap (λ l. l ++ v ∷ []) s.traded;
+          pairs = omega (arith, length_push d.volumes.items v, r);
           moved = none transactions cs c refl ∙ s.moved;
           few = s.few;
         }
@@ -185,24 +183,23 @@ module _ (d : Draft) (cs : List Cmd) where
     says_volume Transactions s m = absurd (false≢true m)
     says_volume Grants s m = absurd (false≢true m)
 
-  says_transaction_at : (g : Stage) (t : Transaction) (n : List ℕ) → d.count < 1024 → pairs_at g ≤ 56 → priced_at g ≡ 8
+  says_transaction_at : (g : Stage) (t : Transaction) (n : List ℕ) → array_vec_len d.transactions < 1024 → pairs_at g ≤ 56 → priced_at g ≡ 8
       → (flat_map heights cs ≡ d.height ∷ []) × (flat_map parents cs ≡ d.parent)
       → Says g d cs → Says Transactions (added d (transaction t n)) (cs ++ transaction t n ∷ [])
   says_transaction_at g t n l r e b s =
       let c = transaction t n in
-      let more = take_more_set d.transactions d.count t (subst (λ n. d.count < n) (sym s.long.2) l) in
       record {
         proper = tt;
-        long = (s.long.0, s.long.1, length-set d.transactions d.count t ∙ s.long.2);
+        long = s.long;
         begun = stays c d.height d.parent refl refl b;
         priced = none prices cs c refl ∙ (s.priced ∙ ap (λ n. take n d.prices) e);
         traded = none volumes cs c refl ∙ s.traded;
         pairs = omega (arith, s.pairs, r);
-        moved = joined_push transactions cs c ∙ (ap (λ l. l ++ t ∷ []) s.moved ∙ sym more);
-        few = omega arith;
+        moved = joined_push transactions cs c ∙ ap (λ l. l ++ t ∷ []) s.moved;
+        few = omega (arith, length_push d.transactions.items t, l);
       }
 
-  says_transaction : (g : Stage) (t : Transaction) (n : List ℕ) → d.count < 1024 → Says g d cs → admits g (transaction t n) ≡ true
+  says_transaction : (g : Stage) (t : Transaction) (n : List ℕ) → array_vec_len d.transactions < 1024 → Says g d cs → admits g (transaction t n) ≡ true
       → Says Transactions (added d (transaction t n)) (cs ++ transaction t n ∷ [])
   says_transaction Start t n l s m = absurd (false≢true m)
   says_transaction (Price x) t n l s m = absurd (false≢true m)
@@ -222,7 +219,7 @@ module _ (d : Draft) (cs : List Cmd) where
 
   -- one command more, other than the end
   pub says_more : (g : Stage) (c : Cmd) → Says g d cs → admits g c ≡ true → fit c ≡ true → (c ≡ end → ⊥)
-      → d.count + length (transactions c) ≤ 1024 → Says (afterwards c) (added d c) (cs ++ c ∷ [])
+      → array_vec_len d.transactions + length (transactions c) ≤ 1024 → Says (afterwards c) (added d c) (cs ++ c ∷ [])
   says_more g (begin h p) s m f ne r = says_begin g h p s m
   says_more g (price x p) s m f ne r = says_price g x p s m f
   says_more g (volume v) s m f ne r = says_volume v f g s m
@@ -230,16 +227,7 @@ module _ (d : Draft) (cs : List Cmd) where
   says_more g (found x) s m f ne r = absurd (no_grant g x s.proper m)
   says_more g end s m f ne r = absurd (ne refl)
 
-  -- there are never more than 56 volumes
-  pub pairs_few : (g : Stage) → Says g d cs → d.pairs ≤ 56
-  pairs_few Start s = omega (arith, s.pairs)
-  pairs_few (Price x) s = omega (arith, s.pairs)
-  pairs_few FirstVolume s = omega (arith, s.pairs)
-  pairs_few (VolumeAbove x y) s = omega (arith, s.pairs, (rank_bound x y s.proper).1)
-  pairs_few Transactions s = s.pairs
-  pairs_few Grants s = absurd s.proper
-
-  room_volume : (g : Stage) (v : Volume) → fit (volume v) ≡ true → Says g d cs → admits g (volume v) ≡ true → d.pairs < 56
+  room_volume : (g : Stage) (v : Volume) → fit (volume v) ≡ true → Says g d cs → admits g (volume v) ≡ true → array_vec_len d.volumes < 56
   room_volume Start v f s m = absurd (false≢true m)
   room_volume (Price x) v f s m = absurd (false≢true m)
   room_volume FirstVolume v f s m = omega (arith, s.pairs)
@@ -249,13 +237,13 @@ module _ (d : Draft) (cs : List Cmd) where
   room_volume Grants v f s m = absurd (false≢true m)
 
   -- there is room for a command that is in turn and in range
-  pub room : (g : Stage) (c : Cmd) → Says g d cs → admits g c ≡ true → fit c ≡ true → d.count + length (transactions c) ≤ 1024 → Room d c
-  room g (begin h p) s m f r = tt
-  room g (price x p) s m f r = let l : x < 8 = grind (arith, nat_tests) in l
-  room g (volume v) s m f r = room_volume g v f s m
-  room g (transaction t n) s m f r = omega arith
-  room g (found x) s m f r = tt
-  room g end s m f r = tt
+  pub room : (g : Stage) (c : Cmd) → Says g d cs → admits g c ≡ true → fit c ≡ true → Room d c
+  room g (begin h p) s m f = tt
+  room g (price x p) s m f = let l : x < 8 = grind (arith, nat_tests) in l
+  room g (volume v) s m f = room_volume g v f s m
+  room g (transaction t n) s m f = tt
+  room g (found x) s m f = tt
+  room g end s m f = tt
 
 one : (c : Cmd) → length (transactions c) ≤ 1
 one (begin h p) = omega arith
@@ -264,13 +252,6 @@ one (volume v) = omega arith
 one (transaction t n) = omega arith
 one (found x) = omega arith
 one end = omega arith
-
--- what the test for a transaction too many says
-pub overflow : (n : ℕ) (c : Cmd) → true ≡ ltb 1024 (n + length (transactions c)) → 1024 < n + length (transactions c)
-overflow n c e = ltb-true 1024 (n + length (transactions c)) (sym e)
-
-pub overflow_not : (n : ℕ) (c : Cmd) → false ≡ ltb 1024 (n + length (transactions c)) → n + length (transactions c) ≤ 1024
-overflow_not n c e = ltb-false 1024 (n + length (transactions c)) (sym e)
 
 -- a transaction that has no room comes after 1,024 others
 pub full : (n : ℕ) (c : Cmd) → n ≤ 1024 → 1024 < n + length (transactions c) → (n ≡ 1024) × (length (transactions c) ≡ 1)

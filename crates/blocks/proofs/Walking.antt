@@ -1,7 +1,7 @@
 -- The walk over the commands of a block: what it keeps, what a further command adds, and where it ends. Assumes nothing.
-use Rattle.std.proofs.Common.{◌≡◌, ℕ, ◌+◌, ◌*◌, ◌<◌, ◌≤◌, Bool, true, false, cond, not, ◌&&◌, ltb, leb, ◌⊎◌, List, [], ◌∷◌, ◌++◌, length, take, set, sym, refl, ap, ◌∙◌, subst, inl, inr, arith, Bor}
+use Rattle.std.proofs.Common.{◌≡◌, ℕ, ◌+◌, ◌*◌, ◌<◌, ◌≤◌, Bool, true, false, cond, not, ◌&&◌, ltb, leb, ◌⊎◌, List, [], ◌∷◌, ◌++◌, length, take, sym, refl, ap, ◌∙◌, subst, inl, inr, arith, Bor}
 use Rattle.std.specs.List.{flat_map}
-use Rattle.std.proofs.lemmas.List.{length-append, length-take-le, length-set, take_all, take_more_set}
+use Rattle.std.proofs.lemmas.List.{length-append, length_push, take_all}
 use Rattle.std.proofs.ByRecursion.{All-push, has_push}
 use Rattle.std.proofs.lemmas.Bool.{false≢true}
 use Rattle.std.proofs.lemmas.Bool.Decides.{nat_tests}
@@ -10,6 +10,7 @@ use Rattle.terms.specs.declared.Grant.{Grant}
 use Rattle.commands.specs.declared.command.Command.{Command}
 use Rattle.commands.specs.declared.command.Command.TheVariants as code
 use Rattle.commands.specs.Shown.{shown}
+use Rattle.arrayvec.specs.ArrayVec.{array_vec_len}
 use Rattle.blocks.specs.declared.drafted.Draft.{Draft}
 use Rattle.blocks.specs.declared.stage.Stage.{Stage}
 use Rattle.blocks.specs.declared.stage.Stage.TheVariants.{Start, Price, FirstVolume, VolumeAbove, Transactions, Grants}
@@ -235,12 +236,10 @@ pub record Walked (bs : List ℕ) (cs : List Cmd) (at : ℕ) (g : Stage) (d : Dr
 
 module _ (bs : List ℕ) (cs : List Cmd) (at : ℕ) (g : Stage) (d : Draft) (w : Walked bs cs at g d) where
   -- as many transactions as the commands say
-  pub counted : length (flat_map transactions cs) ≡ d.count
-  counted =
-      ap length w.says.moved
-      ∙ length-take-le d.count d.transactions (subst (λ n. d.count ≤ n) (sym w.says.long.2) w.says.few)
+  pub counted : length (flat_map transactions cs) ≡ array_vec_len d.transactions
+  counted = ap length w.says.moved
 
-  pub walked_more : (c : Cmd) (n : ℕ) → Took bs at (admits g) c n → (c ≡ end → ⊥) → d.count + length (transactions c) ≤ 1024
+  pub walked_more : (c : Cmd) (n : ℕ) → Took bs at (admits g) c n → (c ≡ end → ⊥) → array_vec_len d.transactions + length (transactions c) ≤ 1024
       → Walked bs (cs ++ c ∷ []) n (afterwards c) (added d c)
   walked_more c n t ne r =
       record {
@@ -257,7 +256,7 @@ module _ (bs : List ℕ) (cs : List Cmd) (at : ℕ) (g : Stage) (d : Draft) (w :
         good = subst (Good is_begin bs (cs ++ end ∷ [])) (ends_there bs at n g t l) (good_end is_begin bs cs at g w.reached n t);
         height = h.0;
         parent = h.1;
-        priced = w.says.priced ∙ (ap (λ i. take i d.prices) h.2 ∙ take_all 8 d.prices (omega (arith, w.says.long.0)));
+        priced = w.says.priced ∙ (ap (λ i. take i d.prices) h.2 ∙ take_all 8 d.prices (omega (arith, w.says.long)));
         traded = w.says.traded;
         moved = w.says.moved;
       }
@@ -273,36 +272,33 @@ module _ (bs : List ℕ) (cs : List Cmd) (at : ℕ) (g : Stage) (d : Draft) (w :
       complete Grants p m b = absurd p
 
 -- What the walk over a founding keeps.
-pub record Gathered (bs : List ℕ) (cs : List Cmd) (at : ℕ) (gs : List Grant) (n : ℕ) : Type 0 where
+pub record Gathered (bs : List ℕ) (cs : List Cmd) (at : ℕ) (gs : List Grant) : Type 0 where
   pub reached : Reached is_grant bs cs at (admits Grants)
-  pub says : flat_map grants cs ≡ take n gs
-  pub long : length gs ≡ 579
-  pub room : 69 * n ≤ at
+  pub says : flat_map grants cs ≡ gs
+  pub room : 69 * length gs ≤ at
 
-module _ (bs : List ℕ) (cs : List Cmd) (at : ℕ) (gs : List Grant) (k : ℕ) (w : Gathered bs cs at gs k) where
+module _ (bs : List ℕ) (cs : List Cmd) (at : ℕ) (gs : List Grant) (w : Gathered bs cs at gs) where
   -- a grant that a step took, of 69 bytes
-  grant_room : (g : Grant) (n : ℕ) → Took bs at (admits Grants) (found g) n → length bs ≤ 40000 → (k < 579) × (69 * (k + 1) ≤ n)
+  grant_room : (g : Grant) (n : ℕ) → Took bs at (admits Grants) (found g) n → length bs ≤ 40000 → (length gs < 579) × (69 * (length gs + 1) ≤ n)
   grant_room g n t l =
       let v = width_is bs at t.here ∙ ap wide t.is in
       let m = whole_moves bs at t.here in
       (omega (arith, v, m.1, w.room), omega (arith, v, t.then, w.room))
 
-  pub grant_fits : (g : Grant) (n : ℕ) → Took bs at (admits Grants) (found g) n → length bs ≤ 40000 → k < 579
+  pub grant_fits : (g : Grant) (n : ℕ) → Took bs at (admits Grants) (found g) n → length bs ≤ 40000 → length gs < 579
   grant_fits g n t l = (grant_room g n t l).0
 
   pub gathered_more : (g : Grant) (n : ℕ) → Took bs at (admits Grants) (found g) n → length bs ≤ 40000
-      → Gathered bs (cs ++ found g ∷ []) n (set gs k g) (k + 1)
+      → Gathered bs (cs ++ found g ∷ []) n (gs ++ g ∷ [])
   gathered_more g n t l =
       let r = grant_room g n t l in
-      let i : k < length gs = omega (arith, r.0, w.long) in
       record {
         reached = reached_more is_grant bs cs at Grants w.reached (found g) n t (never refl) (omega (arith, w.reached.good.few));
-        says = joined_push grants cs (found g) ∙ (ap (λ l. l ++ g ∷ []) w.says ∙ sym (take_more_set gs k g i));
-        long = length-set gs k g ∙ w.long;
-        room = r.1;
+        says = joined_push grants cs (found g) ∙ ap (λ l. l ++ g ∷ []) w.says;
+        room = omega (arith, length_push gs g, r.1);
       }
 
-  pub founds : (n : ℕ) → Took bs at (admits Grants) end n → length bs ≤ n → length bs ≤ 40000 → Founds bs (take k gs)
+  pub founds : (n : ℕ) → Took bs at (admits Grants) end n → length bs ≤ n → length bs ≤ 40000 → Founds bs gs
   founds n t l h =
       record {
         short = h;

@@ -1,65 +1,107 @@
 // A block in the making: what the commands so far have said of it.
-ghost use Rattle.std.specs.Prelude.{◌≡◌, ◌+◌, ◌<◌, ◌≤◌, length, nat_lt};
-ghost use Rattle.blocks.specs.Readable.{transactions as transactionsOf};
+ghost use Rattle.std.specs.Prelude.{◌≡◌, ◌+◌, ◌<◌, ◌≤◌, length, MatchResult};
+ghost use Rattle.std.specs.Option.{option_to_list};
+ghost use Rattle.arrayvec.specs.ArrayVec.{array_vec_len};
+ghost use Rattle.terms.specs.declared.causes.Cause.TheVariants.{TooManyTransactions};
+ghost use Rattle.blocks.specs.Readable.{transactions};
 ghost use Rattle.commands.specs.Shown.{shown};
-ghost use Rattle.blocks.specs.Drafts.{Room, added, pushed, blank};
+ghost use Rattle.blocks.specs.Drafts.{Room, added, blank};
 
 use crate::drafted::Draft;
+use arrayvec::ArrayVec;
 use commands::Command;
-use terms::{Action, Transaction, Volume};
+use terms::{Action, Cause, Transaction, Volume};
+
+// The transaction that a command is, if it is one.
+fn transaction_of(command: Command) -> Option<Transaction>
+    ensures { option_to_list result ≡ transactions (shown command.entry) }
+{
+    let (source, sequence, action) = match command {
+        Command::Create {
+            source,
+            sequence,
+            account,
+        } => (source, sequence, Action::Create { account }),
+        Command::Pay {
+            source,
+            sequence,
+            receiver,
+            asset,
+            amount,
+            ..
+        } => (
+            source,
+            sequence,
+            Action::Pay {
+                receiver,
+                asset,
+                amount,
+            },
+        ),
+        Command::Place {
+            source,
+            sequence,
+            sold,
+            bought,
+            limit,
+            amount,
+        } => (
+            source,
+            sequence,
+            Action::Place {
+                sold,
+                bought,
+                limit,
+                amount,
+            },
+        ),
+        Command::Cancel {
+            source,
+            sequence,
+            sold,
+            bought,
+            limit,
+            offer,
+        } => (
+            source,
+            sequence,
+            Action::Cancel {
+                sold,
+                bought,
+                limit,
+                offer,
+            },
+        ),
+        _ => return None,
+    };
+    Some(Transaction {
+        source,
+        sequence,
+        action,
+    })
+}
 
 impl Draft {
     pub(crate) fn new() -> Draft
         ensures { result ≡ blank }
     {
-        let volume = Volume {
-            sold: 0,
-            bought: 0,
-            amount: 0,
-        };
-        let transaction = Transaction {
-            source: 0,
-            sequence: 0,
-            action: Action::Create { account: 0 },
-        };
         Draft {
             height: 0,
             parent: [0; 32],
             prices: [0; 8],
-            volumes: [volume; 56],
-            pairs: 0,
-            transactions: [transaction; 1024],
-            count: 0,
+            volumes: ArrayVec::new(),
+            transactions: ArrayVec::new(),
         }
     }
 
-    fn push(&mut self, transaction: Transaction)
-        requires { self.old.count < 1024 }
-        ensures { self.new ≡ pushed self.old transaction }
-    {
-        let at = self.count;
-        self.transactions[at] = transaction;
-        self.count = at + 1;
-    }
-
-    // Whether the command would be transaction 1,025.
-    pub(crate) fn overflows(&self, command: Command) -> bool
-        requires { self.now.count ≤ 1024 }
-        ensures { result ≡ nat_lt 1024 (self.now.count + length (transactionsOf (shown command.entry))) }
-    {
-        match command {
-            Command::Create { .. }
-            | Command::Pay { .. }
-            | Command::Place { .. }
-            | Command::Cancel { .. } => self.count == 1024,
-            _ => false,
-        }
-    }
-
-    // Takes in one command for which there is room.
-    pub(crate) fn add(&mut self, command: Command)
-        requires { Room self.old (shown command) }
-        ensures { self.new ≡ added self.old (shown command.entry) }
+    // Takes in one command. There is room for its price or its volume; transaction 1,025 is refused.
+    pub(crate) fn add(&mut self, command: Command) -> Result<(), Cause>
+        requires room { Room self.old (shown command) }
+        requires few { array_vec_len self.old.transactions ≤ 1024 }
+        ensures { let count = array_vec_len self.old.transactions + length (transactions (shown command.entry)) in
+            MatchResult result
+            (λ _. (count ≤ 1024) × (self.new ≡ added self.old (shown command.entry)))
+            (λ cause. (1024 < count) × (cause ≡ TooManyTransactions)) }
     {
         match command {
             Command::Begin { height, parent } => {
@@ -71,83 +113,19 @@ impl Draft {
                 sold,
                 bought,
                 amount,
-            } => {
-                let at = self.pairs;
-                self.volumes[at] = Volume {
-                    sold,
-                    bought,
-                    amount,
-                };
-                self.pairs = at + 1;
-            }
-            Command::Create {
-                source,
-                sequence,
-                account,
-            } => {
-                self.push(Transaction {
-                    source,
-                    sequence,
-                    action: Action::Create { account },
-                });
-            }
-            Command::Pay {
-                source,
-                sequence,
-                receiver,
-                asset,
-                amount,
-                ..
-            } => {
-                self.push(Transaction {
-                    source,
-                    sequence,
-                    action: Action::Pay {
-                        receiver,
-                        asset,
-                        amount,
-                    },
-                });
-            }
-            Command::Place {
-                source,
-                sequence,
+            } => self.volumes.push(Volume {
                 sold,
                 bought,
-                limit,
                 amount,
-            } => {
-                self.push(Transaction {
-                    source,
-                    sequence,
-                    action: Action::Place {
-                        sold,
-                        bought,
-                        limit,
-                        amount,
-                    },
-                });
+            }),
+            _ => {
+                if let Some(transaction) = transaction_of(command) {
+                    self.transactions
+                        .try_push(transaction)
+                        .map_err(|_| Cause::TooManyTransactions)?;
+                }
             }
-            Command::Cancel {
-                source,
-                sequence,
-                sold,
-                bought,
-                limit,
-                offer,
-            } => {
-                self.push(Transaction {
-                    source,
-                    sequence,
-                    action: Action::Cancel {
-                        sold,
-                        bought,
-                        limit,
-                        offer,
-                    },
-                });
-            }
-            Command::Found { .. } | Command::End => {}
         }
+        Ok(())
     }
 }

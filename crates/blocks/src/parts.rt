@@ -31,14 +31,14 @@ impl DecodedBlock {
     pub fn volumes(&self) -> &[Volume]
         ensures { result.now ≡ (block_of self.now).volumes }
     {
-        &self.parts.volumes[0..self.parts.pairs]
+        self.parts.volumes.as_slice()
     }
 
     // The transactions, in the order of the block.
     pub fn transactions(&self) -> &[Transaction]
         ensures { result.now ≡ (block_of self.now).transactions }
     {
-        &self.parts.transactions[0..self.parts.count]
+        self.parts.transactions.as_slice()
     }
 }
 
@@ -47,7 +47,7 @@ impl DecodedFounding {
     pub fn grants(&self) -> &[Grant]
         ensures { result.now ≡ grants_of self.now }
     {
-        &self.grants[0..self.count]
+        self.grants.as_slice()
     }
 }
 

@@ -30,34 +30,22 @@ impl Stage {
         ensures { result ≡ admits self (shown command.entry) }
     {
         match command {
-            Command::Begin { .. } => match self {
-                Stage::Start => true,
-                _ => false,
-            },
-            Command::Price { asset, .. } => match self {
-                Stage::Price(x) => asset == x,
-                _ => false,
-            },
+            Command::Begin { .. } => matches!(self, Stage::Start),
+            Command::Price { asset, .. } => matches!(self, Stage::Price(next) if asset == next),
             Command::Volume { sold, bought, .. } => match self {
                 Stage::FirstVolume => true,
-                Stage::VolumeAbove(s, b) => s < sold || (s == sold && b < bought),
+                Stage::VolumeAbove(s, b) => (s, b) < (sold, bought),
                 _ => false,
             },
             Command::Create { .. }
             | Command::Pay { .. }
             | Command::Place { .. }
-            | Command::Cancel { .. } => match self {
-                Stage::FirstVolume | Stage::VolumeAbove(_, _) | Stage::Transactions => true,
-                _ => false,
-            },
-            Command::Found { .. } => match self {
-                Stage::Grants => true,
-                _ => false,
-            },
-            Command::End => match self {
-                Stage::Start | Stage::Price(_) => false,
-                _ => true,
-            },
+            | Command::Cancel { .. } => matches!(
+                self,
+                Stage::FirstVolume | Stage::VolumeAbove(_, _) | Stage::Transactions
+            ),
+            Command::Found { .. } => matches!(self, Stage::Grants),
+            Command::End => !matches!(self, Stage::Start | Stage::Price(_)),
         }
     }
 

@@ -6,6 +6,7 @@ ghost use Rattle.blocks.specs.Decoded.{block_of, grants_of};
 use crate::decoded::{DecodedBlock, DecodedFounding};
 use crate::drafted::Draft;
 use crate::stage::{Stage, step};
+use arrayvec::ArrayVec;
 use commands::{Command, eight_balances};
 use terms::{Cause, Fault, Grant};
 
@@ -28,10 +29,9 @@ pub fn read_block(bytes: &[u8]) -> Result<DecodedBlock, Fault>
             }
             return Ok(DecodedBlock { parts: draft });
         }
-        if draft.overflows(reading.command) {
-            return Err(Cause::TooManyTransactions.at_byte(at));
-        }
-        draft.add(reading.command);
+        draft
+            .add(reading.command)
+            .map_err(|cause| cause.at_byte(at))?;
         stage = Stage::after(reading.command);
         at = reading.next;
     }
@@ -45,11 +45,7 @@ pub fn read_founding(bytes: &[u8]) -> Result<DecodedFounding, Fault>
     if bytes.len() > 40_000 {
         return Err(Cause::TooManyBytes.into());
     }
-    let mut grants = [Grant {
-        account: 0,
-        balances: [0; 8],
-    }; 579];
-    let mut count = 0;
+    let mut grants = ArrayVec::new();
     let mut at = 0;
     while at < bytes.len() {
         let reading = step(bytes, at, Stage::Grants)?;
@@ -57,16 +53,15 @@ pub fn read_founding(bytes: &[u8]) -> Result<DecodedFounding, Fault>
             if reading.next < bytes.len() {
                 return Err(Cause::BytesAfterEnd.at_byte(reading.next));
             }
-            return Ok(DecodedFounding { grants, count });
+            return Ok(DecodedFounding { grants });
         }
         let Command::Found { account, balances } = reading.command else {
             return unreachable();
         };
-        grants[count] = Grant {
+        grants.push(Grant {
             account,
             balances: eight_balances(balances),
-        };
-        count += 1;
+        });
         at = reading.next;
     }
     Err(Cause::Unfinished.at_byte(at))

@@ -1,7 +1,7 @@
 -- What is left of a cleared block is what a commit gives; and what clearing starts from. Assumes nothing.
-use Rattle.std.proofs.Common.{◌≡◌, ℕ, true, false, eqb, leb, List, [], ◌∷◌, length, refl, ap, ◌∙◌, subst}
+use Rattle.std.proofs.Common.{arith, ◌<◌, ◌≡◌, ℕ, true, eqb, leb, List, [], ◌∷◌, length, refl, ap, ◌∙◌, subst}
 use Rattle.std.specs.List.{flat_map}
-use Rattle.std.proofs.lemmas.Bool.{and_parts, and_from, both_ways}
+use Rattle.std.proofs.lemmas.Bool.{and_parts, leb-true}
 use Rattle.std.proofs.ByRecursion.{All-weaker}
 use Rattle.terms.specs.declared.Transaction.{Transaction}
 use Rattle.terms.specs.Ranges.{every, is_word, is_price, fit_volume, fit_transaction}
@@ -13,7 +13,7 @@ use Rattle.exchange.specs.State.{State}
 use Rattle.exchange.specs.Commit.{Ordered}
 use Rattle.exchange.proofs.Sums.{rising_one}
 use Rattle.tally.specs.declared.effects.Net.{Net}
-use Rattle.tally.specs.Tally.{roomy, Tallied}
+use Rattle.tally.specs.Tally.{Tallied}
 use Rattle.judging_balances.specs.declared.Slot.{Slot}
 use Rattle.judging_balances.specs.Moves.{moves, slot_words}
 use Rattle.judging_balances.proofs.Totals.{comes_in, goes_out}
@@ -72,7 +72,7 @@ netted s b ts ns e h =
     }
 
 -- a block in range has no more transactions than there is room for
-pub few : (b : Block) (ts : List Transaction) → fit_block b ≡ true → ts ≡ b.transactions → roomy (length ts) 2048 2048 ≡ false → ⊥
+pub few : (b : Block) (ts : List Transaction) → fit_block b ≡ true → ts ≡ b.transactions → 1024 < length ts → ⊥
 few b ts e r f =
     let p₁ = (and_parts (is_word b.height) _ e).1 in
     let p₂ = (and_parts (eqb (length b.parent) 32) _ p₁).1 in
@@ -82,4 +82,4 @@ few b ts e r f =
     let p₆ = (and_parts (every fit_volume b.volumes) _ p₅).1 in
     let p₇ = (and_parts (leb (length b.volumes) 56) _ p₆).1 in
     let p₈ = (and_parts (every fit_transaction b.transactions) (leb (length b.transactions) 1024) p₇).1 in
-    both_ways (roomy (length ts) 2048 2048) f (and_from (leb (length ts) 1024) _ (ap (λ us. leb (length us) 1024) r ∙ p₈) refl)
+    omega (arith, f, leb-true (length b.transactions) 1024 p₈, ap length r)

@@ -19,8 +19,8 @@ use clearing_store::{apply_nets, open_accounts, raise_floors};
 use clearing_walk::walk_all;
 use judging_balances::{Slot, nets};
 use offers::OfferBook;
-use tally::{Effect, Net};
-use terms::{Cause, Fault};
+use tally::{Ledger, Net};
+use terms::Fault;
 
 // Clears a block by its nets. They are worked out before, since cancelled offers are still in the book then; they reach
 // the balances in one step each, since what comes in first could pass the largest balance.
@@ -62,24 +62,9 @@ pub fn clear<S: AccountStore, B: OfferBook>(
         → Sound s → Verdict s (block_of block.now) None
         → ClearedOr s (block_of block.now) (S.store store.new) (B.book book.new) remainders.new result }
 {
-    let none = Slot {
-        account: 0,
-        asset: 0,
-    };
-    let mut effects = [Effect {
-        key: none,
-        plus: 0,
-        minus: 0,
-    }; 2048];
-    let mut entries = [Net {
-        key: none,
-        plus: 0,
-        minus: 0,
-    }; 2048];
-    match nets(book, block.transactions(), &mut effects, &mut entries) {
-        None => Err(Cause::TooManyTransactions.into()),
-        Some(n) => clear_by(store, book, remainders, block, &entries[0..n]),
-    }
+    let mut ledger = Ledger::new();
+    let entries = nets(&mut ledger, book, block.transactions())?;
+    clear_by(store, book, remainders, block, entries)
 }
 
 // What a clearing leaves is, with the next height, the digest renewed and one more committed, the state that a commit

@@ -23,6 +23,7 @@ fn take_off(remainders: &mut [u64; 8], paid: &[u64; 8])
     ensures eight { length remainders.new ≡ 8 }
     ensures each { (x : ℕ) → x < 8 → slice_index remainders.new x ≡ slice_index remainders.old x - slice_index paid.now x }
 {
+    // by places: over iter_mut and zip the proof does not tie what is left to its place
     for x in 0..8 {
         remainders[x] = remainders[x].saturating_sub(paid[x]);
     }

@@ -8,29 +8,15 @@ ghost use Rattle.exchange.specs.Trade.{placed, cancelled};
 ghost use Rattle.clearing_book.specs.Entries.{LeftOr, EnteredOr};
 
 use offers::OfferBook;
-use terms::{Action, Fault, Key, Transaction};
+use terms::{Fault, Offer, Transaction};
 
 // Takes out the offer that a transaction cancels, if it cancels one.
 fn cancel<B: OfferBook>(book: &mut B, t: Transaction) -> Result<(), Fault>
     ensures { LeftOr (cancelled t) (B.book book.old) (B.book book.new) result }
 {
-    match t.action {
-        Action::Cancel {
-            sold,
-            bought,
-            limit,
-            offer,
-        } => {
-            let key = Key {
-                sold,
-                bought,
-                limit,
-                account: t.source,
-                sequence: offer,
-            };
-            book.reduce(key, 0)
-        }
-        _ => Ok(()),
+    match t.cancelled() {
+        Some(key) => book.reduce(key, 0),
+        None => Ok(()),
     }
 }
 
@@ -38,23 +24,9 @@ fn cancel<B: OfferBook>(book: &mut B, t: Transaction) -> Result<(), Fault>
 fn place<B: OfferBook>(book: &mut B, t: Transaction) -> Result<(), Fault>
     ensures { EnteredOr (placed t) (B.book book.old) (B.book book.new) result }
 {
-    match t.action {
-        Action::Place {
-            sold,
-            bought,
-            limit,
-            amount,
-        } => {
-            let key = Key {
-                sold,
-                bought,
-                limit,
-                account: t.source,
-                sequence: t.sequence,
-            };
-            book.place(key, amount)
-        }
-        _ => Ok(()),
+    match t.placed() {
+        Some(Offer { key, amount }) => book.place(key, amount),
+        None => Ok(()),
     }
 }
 

@@ -12,7 +12,7 @@ ghost use Rattle.clearing_store.specs.Changes.{moved_to, AppliedOr, RaisedOr, Op
 use accounts::AccountStore;
 use judging_balances::Slot;
 use tally::Net;
-use terms::{Action, Cause, Fault, MAX_BALANCE, Transaction};
+use terms::{Cause, Fault, MAX_BALANCE, Transaction};
 
 // A number as a balance, where it is in range.
 fn as_balance(value: u128) -> Option<u64>
@@ -30,14 +30,12 @@ fn moved(had: u64, plus: u128, minus: u128) -> Option<u64>
     ensures { result ≡ moved_to had plus minus }
 {
     let had = had as u128;
-    if plus >= minus {
-        return as_balance(had.saturating_add(plus - minus));
-    }
-    let less = minus - plus;
-    if had < less {
-        return None;
-    }
-    as_balance(had - less)
+    let value = if plus >= minus {
+        had.checked_add(plus - minus)?
+    } else {
+        had.checked_sub(minus - plus)?
+    };
+    as_balance(value)
 }
 
 // Brings one net to its balance. A net that changes nothing is passed over.
@@ -48,10 +46,10 @@ fn apply<S: AccountStore>(store: &mut S, net: Net<Slot>) -> Result<(), Fault>
         return Ok(());
     }
     let had = store.balance(net.key.account, net.key.asset);
-    match moved(had, net.plus, net.minus) {
-        None => Err(Cause::BadOperand.into()),
-        Some(value) => store.set_balance(net.key.account, net.key.asset, value),
-    }
+    let Some(value) = moved(had, net.plus, net.minus) else {
+        return Err(Cause::BadOperand.into());
+    };
+    store.set_balance(net.key.account, net.key.asset, value)
 }
 
 // Brings all nets to their balances. Refuses only where an account does not stand or a new balance is out of range.
@@ -92,9 +90,9 @@ pub fn raise_floors<S: AccountStore>(
 fn open<S: AccountStore>(store: &mut S, t: Transaction) -> Result<(), Fault>
     ensures { OpenedOr (created t) (S.store store.old) (S.store store.new) result }
 {
-    match t.action {
-        Action::Create { account } => store.open(account),
-        _ => Ok(()),
+    match t.created() {
+        Some(account) => store.open(account),
+        None => Ok(()),
     }
 }
 

@@ -15,7 +15,7 @@ use Rattle.exchange.specs.Trade.{trading, volume, eligible, sold}
 use Rattle.exchange.proofs.Rising.{sum_by_zero}
 use Rattle.exchange.proofs.Sums.{if_true, if_false}
 use Rattle.clearing_walk.specs.declared.Fill.{Fill}
-use Rattle.clearing_walk.specs.declared.Rates.{Rates}
+use Rattle.clearing_walk.specs.declared.rates.Rates.{Rates}
 use Rattle.clearing_walk.specs.Walk.{Ready, sum_to, pay_in, weight, Walked, At, Used, Priced, Turned, Going, PairDone}
 use Rattle.clearing_walk.proofs.Walks.{none_sold, traded, on, on_in}
 use Rattle.clearing_walk.proofs.Pairs.{head_up, head_down, tail_up, tail_down, w₂, w₃, w₄, used_full}

@@ -12,7 +12,7 @@ use Rattle.exchange.specs.State.{State}
 use Rattle.exchange.specs.Trade.{trading, price, volume, eligible, before, sold, paid}
 use Rattle.exchange.proofs.Sums.{if_true, if_false}
 use Rattle.clearing_walk.specs.declared.Fill.{Fill}
-use Rattle.clearing_walk.specs.declared.Rates.{Rates}
+use Rattle.clearing_walk.specs.declared.rates.Rates.{Rates}
 use Rattle.clearing_walk.specs.Walk.{largest, Ready, sum_to, pay_in, weight, At, Used, Priced, Turned, Settled, Able}
 use Rattle.clearing_walk.proofs.Next.{NextKey}
 use Rattle.clearing_walk.proofs.Cursor.{sum_within}

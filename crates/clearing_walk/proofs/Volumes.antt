@@ -20,6 +20,7 @@ use Rattle.exchange.proofs.Rising.{sum_by_zero, sum_by_same, sum_by_grows, all_o
 use Rattle.exchange.proofs.Sums.{if_true, if_false, lookup, rising_once}
 use Rattle.exchange.proofs.Fit.{Fit, fits, all_from}
 use Rattle.offers.proofs.Sound.{amount_parts}
+use Rattle.clearing_walk.specs.declared.rates.Rates.{Rates}
 use Rattle.clearing_walk.specs.Walk.{largest, Ready, Filled, sum_to, pay_to, pay_in, Walked, Priced, PairDone, Holds, last, pair_start, Passing}
 use Rattle.clearing_walk.proofs.Walks.{on, on_in, none_paid, cond_le}
 use Rattle.clearing_walk.proofs.Ends.{rise}
@@ -213,12 +214,13 @@ module _ (s : State) (b : Block) (st₀ : Store) (ready : Ready s b st₀) (ps :
       (All-get_or (λ v. under pair (λ u. u.amount) b.volumes (pair v) ≡ v.amount) b.volumes i last within
       (lookup pair (λ u. u.amount) b.volumes (rising_once pair b.volumes (fits b h.fit).pairs))))
 
-  pub priced : t.bought < 8 → Priced s b st₀ t.sold t.bought (record { sold = get_or ps t.sold 0; bought = get_or ps t.bought 0 })
-  priced in8 = record {
+  pub priced : (rates : Rates) → rates.sold ≡ get_or ps t.sold 0 → rates.bought ≡ get_or ps t.bought 0 → t.bought < 8
+      → Priced s b st₀ t.sold t.bought rates
+  priced rates e f in8 = record {
     ready = ready;
     bought = in8;
-    price_sold = ap (λ z. get_or z t.sold 0) (sym h.prices);
-    price_bought = ap (λ z. get_or z t.bought 0) (sym h.prices);
+    price_sold = e ∙ ap (λ z. get_or z t.sold 0) (sym h.prices);
+    price_bought = f ∙ ap (λ z. get_or z t.bought 0) (sym h.prices);
   }
 
   module _ (st : Store) (os : List Offer) (outs : List ℕ) (p : Passing s b st₀ i st os outs) where

@@ -16,7 +16,7 @@ use Rattle.blocks.specs.Readable.{Block, fit_block}
 use Rattle.exchange.specs.State.{State}
 use Rattle.exchange.specs.Trade.{trading, price, volume, eligible_in, sold, paid, payout, paid_in}
 use Rattle.clearing_walk.specs.declared.Fill.{Fill}
-use Rattle.clearing_walk.specs.declared.Rates.{Rates}
+use Rattle.clearing_walk.specs.declared.rates.Rates.{Rates}
 
 -- the largest amount and balance, 2^36 − 1
 abbrev pub largest : ℕ

@@ -10,20 +10,16 @@ ghost use Rattle.terms.specs.Ranges.{every, is_price, fit_volume};
 ghost use Rattle.blocks.specs.Readable.{Block};
 ghost use Rattle.blocks.specs.Decoded.{block_of};
 ghost use Rattle.exchange.specs.State.{State};
-ghost use Rattle.exchange.specs.Trade.{volume as volumeIn, trading};
+ghost use Rattle.exchange.specs.Trade.{volume as volume_in, trading};
 ghost use Rattle.clearing_walk.specs.Walk.{Ready, FillsDone, SameRoom, largest, Settles, Priced, At, Turned, Bounded, Walked, PairDone, Holds};
 
+mod rates;
+
+use crate::rates::Rates;
 use accounts::AccountStore;
 use blocks::DecodedBlock;
 use offers::OfferBook;
 use terms::{Fault, Key, Volume};
-
-// The prices of the sold and the bought asset of a pair.
-#[derive(Clone, Copy)]
-struct Rates {
-    sold: u64,
-    bought: u64,
-}
 
 // What is sold of an offer, and what is paid for it.
 #[derive(Clone, Copy)]
@@ -41,11 +37,11 @@ fn settle<S: AccountStore, B: OfferBook>(
     rest: u64,
     rates: Rates,
 ) -> Result<Fill, Fault>
-    requires { (rest ≤ largest) × ((rates.sold < 2 ^ 24) × (0 < rates.bought)) }
+    requires { rest ≤ largest }
     ensures { Settles key rest rates (S.store store.old) (S.store store.new) (B.book book.old) (B.book book.new) result }
 {
     let amount = book.amount(key);
-    let sold = if amount < rest { amount } else { rest };
+    let sold = amount.min(rest);
     let paid = sold * rates.sold / rates.bought;
     book.reduce(key, amount - sold)?;
     let had = store.balance(key.account, key.bought);
@@ -55,7 +51,6 @@ fn settle<S: AccountStore, B: OfferBook>(
 
 // Whether a key is an eligible one of the pair of `at`.
 fn serves(key: Key, at: Key, rates: Rates) -> bool
-    requires { (rates.sold < 2 ^ 24) × (rates.bought < 2 ^ 24) }
     ensures { result ≡ (key.sold == at.sold && key.bought == at.bought && nat_le (key.limit * rates.bought) (rates.sold * 65536)) }
 {
     key.sold == at.sold
@@ -71,7 +66,8 @@ fn turn<S: AccountStore, B: OfferBook>(
     rest: u64,
     rates: Rates,
 ) -> Result<Option<Fill>, Fault>
-    requires { (0 < rest) × ((rest ≤ largest) × ((rates.sold < 2 ^ 24) × ((0 < rates.bought) × (rates.bought < 2 ^ 24)))) }
+    requires some { 0 < rest }
+    requires most { rest ≤ largest }
     ensures bounded { Bounded rest rates result }
     ensures kept { SameRoom (B.book book.old).capacity (B.book book.new).capacity result }
     ensures turned { (s : State) (b : Block) (first : Store) → Priced s b first at.sold at.bought rates
@@ -97,10 +93,10 @@ fn walk_pair<S: AccountStore, B: OfferBook>(
     volume: Volume,
     rates: Rates,
 ) -> Result<u64, Fault>
-    requires { (volume.amount ≤ largest) × ((rates.sold < 2 ^ 24) × ((0 < rates.bought) × (rates.bought < 2 ^ 24))) }
+    requires { volume.amount ≤ largest }
     ensures kept { SameRoom (B.book book.old).capacity (B.book book.new).capacity result }
     ensures walked { (s : State) (b : Block) (first : Store) → Priced s b first volume.sold volume.bought rates
-        → volume.amount ≡ volumeIn b volume.sold volume.bought
+        → volume.amount ≡ volume_in b volume.sold volume.bought
         → Walked s b first (volume.sold ∷ volume.bought ∷ []) (S.store store.old) (B.book book.old).offers
         → PairDone s b first volume.sold volume.bought (S.store store.new) (B.book book.new).offers result }
 {
@@ -136,7 +132,8 @@ fn walk_volumes<S: AccountStore, B: OfferBook>(
     prices: &[u32; 8],
     volumes: &[Volume],
 ) -> Result<[u64; 8], Fault>
-    requires { (every is_price prices.now ≡ true) × (every fit_volume volumes.now ≡ true) }
+    requires priced { every is_price prices.now ≡ true }
+    requires fit { every fit_volume volumes.now ≡ true }
     ensures kept { SameRoom (B.book book.old).capacity (B.book book.new).capacity result }
     ensures filled { (s : State) (b : Block) → Holds b prices.now volumes.now
         → Ready s b (S.store store.old)

@@ -1,9 +1,8 @@
 -- Commands that are cut from the bytes one after another. Assumes nothing.
 use Rattle.std.proofs.Common.{◌≡◌, ℕ, ◌+◌, ◌<◌, ◌≤◌, Bool, true, false, cond, not, ◌&&◌, eqb, ltb, leb, List, [], ◌∷◌, ◌++◌, length, get_or, sym, refl, ap, ◌∙◌, subst, ⊎_elim, arith}
 use Rattle.std.proofs.ByRecursion.{has_push_cases}
-use Rattle.std.proofs.lemmas.Bool.{cond-true, cond-false}
 use Rattle.std.proofs.lemmas.Bool.Decides.{nat_tests}
-use Rattle.commands.specs.Format.{Cmd, begin, price, volume, transaction, found, end, begin_at, price_at, volume_at, create_at, pay_at, place_at, cancel_at, found_at, got, refused, cut, upto, broken, skipped, width, command_at, width_at, lettered, whole}
+use Rattle.commands.specs.Format.{Cmd, begin, price, volume, transaction, found, end, begin_at, price_at, volume_at, create_at, pay_at, place_at, cancel_at, found_at, upto, broken, skipped, width, command_at, width_at, lettered, whole}
 use Rattle.commands.specs.Extent.{Stand, Unended, Endless}
 use Rattle.commands.specs.Shown.{shown}
 use Rattle.commands.specs.declared.command.Command.{Command}
@@ -29,41 +28,12 @@ stand_push bs from (d ∷ cs) at c s w e = (s.0, s.1, stand_push bs (from + widt
 pub unended_push : (cs : List Cmd) (c : Cmd) → Unended cs → (c ≡ end → ⊥) → Unended (cs ++ c ∷ [])
 unended_push cs c u n h = ⊎_elim u n (has_push_cases cs c end h)
 
--- a command that a cut gives
-pub record Got (bs : List ℕ) (at : ℕ) (c : Cmd) (next : ℕ) : Type 0 where
-  pub here : whole bs at ≡ true
-  pub is : command_at bs at ≡ c
-  pub then : at + width_at bs at ≡ next
-
--- a test of which one side gives a command and the other does not
-when_got : (b d : Bool) (c x : Cmd) (n m i : ℕ) → got c n ≡ cond b (got x m) (cond d (refused 3 i 0) (refused 2 i 0))
-    → (b ≡ true) × (x ≡ c) × (m ≡ n)
-when_got true d c x n m i e = (refl, (cc), (cc))
-when_got false true c x n m i e = absurd (let z : ◌≡◌ {A = ℕ} 0 1 = cc in omega arith)
-when_got false false c x n m i e = absurd (let z : ◌≡◌ {A = ℕ} 0 1 = cc in omega arith)
-
-pub cut_got : (bs : List ℕ) (at : ℕ) (c : Cmd) (n : ℕ) → got c n ≡ cut bs at → Got bs at c n
-cut_got bs at c n e =
-    let p = when_got (whole bs at) (ltb at (length bs) && not (lettered bs at)) c (command_at bs at) n (at + width_at bs at) at e in
-    record { here = p.0; is = p.1; then = p.2 }
-
-when_refused : (b d : Bool) (x : Cmd) (m at k i j : ℕ) → refused k i j ≡ cond b (got x m) (cond d (refused 3 at 0) (refused 2 at 0))
-    → (b ≡ false) × (k ≡ cond d 3 2) × (i ≡ at) × (j ≡ 0)
-when_refused true d x m at k i j e = absurd (let z : ◌≡◌ {A = ℕ} 0 1 = cc in omega arith)
-when_refused false true x m at k i j e = (refl, (cc), (cc), (cc))
-when_refused false false x m at k i j e = (refl, (cc), (cc), (cc))
-
 -- no whole command, and the number for that
 pub record Cut (bs : List ℕ) (at k i j : ℕ) : Type 0 where
   pub broken : whole bs at ≡ false
   pub numbered : k ≡ cond (ltb at (length bs) && not (lettered bs at)) 3 2
   pub first : i ≡ at
   pub second : j ≡ 0
-
-pub cut_refused : (bs : List ℕ) (at k i j : ℕ) → refused k i j ≡ cut bs at → Cut bs at k i j
-cut_refused bs at k i j e =
-    let p = when_refused (whole bs at) (ltb at (length bs) && not (lettered bs at)) (command_at bs at) (at + width_at bs at) at k i j e in
-    record { broken = p.0; numbered = p.1; first = p.2; second = p.3 }
 
 -- a whole command has a byte at least, and ends within the bytes
 pub whole_moves : (bs : List ℕ) (at : ℕ) → whole bs at ≡ true → (0 < width_at bs at) × (at + width_at bs at ≤ length bs)
@@ -145,35 +115,6 @@ pub skip_broken : (bs : List ℕ) (at k i j : ℕ) → broken k i j ≡ skipped 
 skip_broken bs at k i j e =
     let p = when_broken (whole bs at) (ltb at (length bs) && not (lettered bs at)) (at + width_at bs at) at k i j e in
     record { broken = p.0; numbered = p.1; first = p.2; second = p.3 }
-
-numbers : (d : Bool) (at : ℕ) → refused (cond d 3 2) at 0 ≡ cond d (refused 3 at 0) (refused 2 at 0)
-numbers true at = refl
-numbers false at = refl
-
--- the command, where only letters and widths were looked at so far
-pub cut_upto : (bs : List ℕ) (at n : ℕ) (c : Cmd) → upto n ≡ skipped bs at → c ≡ command_at bs at → got c n ≡ cut bs at
-cut_upto bs at n c e is =
-    let p = skip_upto bs at n e in
-    let same : got c n ≡ got (command_at bs at) (at + width_at bs at) = λ i. got (is i) (sym p.1 i) in
-    same ∙ sym (cond-true (whole bs at) _ _ p.0)
-
-pub cut_broken : (bs : List ℕ) (at k i j : ℕ) → broken k i j ≡ skipped bs at → refused k i j ≡ cut bs at
-cut_broken bs at k i j e =
-    let q = skip_broken bs at k i j e in
-    let d = ltb at (length bs) && not (lettered bs at) in
-    let same : refused k i j ≡ refused (cond d 3 2) at 0 = λ t. refused (q.numbered t) (q.first t) (q.second t) in
-    same ∙ (numbers d at ∙ sym (cond-false (whole bs at) _ _ q.broken))
-
--- the end command by its letter
-
-abbrev by_letter : Cmd → Cmd → Cmd → Cmd → Cmd → Cmd → Cmd → Cmd → ℕ → Cmd
-by_letter b p v a t o k g c =
-    cond (eqb c 66) b (cond (eqb c 80) p (cond (eqb c 86) v (cond (eqb c 65) a (cond (eqb c 84) t
-    (cond (eqb c 79) o (cond (eqb c 67) k (cond (eqb c 71) g end)))))))
-
-pub letter_end : (bs : List ℕ) (at : ℕ) → get_or bs at 0 ≡ 69 → command_at bs at ≡ end
-letter_end bs at e =
-    ap (by_letter (begin_at bs at) (price_at bs at) (volume_at bs at) (create_at bs at) (pay_at bs at) (place_at bs at) (cancel_at bs at) (found_at bs at)) e
 
 one_byte : (c : ℕ) → width c ≡ 1 → c ≡ 69
 one_byte c e = grind (arith, nat_tests)

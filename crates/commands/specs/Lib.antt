@@ -1,3 +1,4 @@
 pub mod Format
 pub mod Shown
 pub mod Extent
+pub mod Kinds

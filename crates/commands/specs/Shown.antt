@@ -5,6 +5,7 @@ use Rattle.terms.specs.declared.Action.TheVariants as act
 use Rattle.commands.specs.declared.command.Command.{Command}
 use Rattle.commands.specs.declared.command.Command.TheVariants.{Begin, Price, Volume, Create, Pay, Place, Cancel, Found, End}
 use Rattle.commands.specs.declared.command.Reading.{Reading}
+use Rattle.commands.specs.declared.kind.Kind.{Kind}
 use Rattle.commands.specs.Format.{Cmd, begin, price, volume, transaction, found, end, Outcome, got, refused, Span, upto, broken, balances}
 
 abbrev pub shown : Command → Cmd
@@ -25,3 +26,7 @@ told (Err f) = refused f.number f.first f.second
 abbrev pub skipped_to : Result ℕ Fault → Span
 skipped_to (Ok n) = upto n
 skipped_to (Err f) = broken f.number f.first f.second
+
+abbrev pub spanned_to : Result (Kind × ℕ) Fault → Span
+spanned_to (Ok s) = upto s.1
+spanned_to (Err f) = broken f.number f.first f.second

@@ -4,6 +4,7 @@
 
 mod command;
 mod extent;
+mod kind;
 mod parser;
 mod ranges;
 

@@ -1,57 +1,15 @@
 // Reading one command at a place of the bytes.
-ghost use Rattle.std.specs.Prelude.{◌≡◌, ℕ, ◌+◌, ◌-◌, ◌*◌, ◌<◌, ◌≤◌, true, cond, length, MatchResult};
+ghost use Rattle.std.specs.Prelude.{◌≡◌, ◌+◌, ◌≤◌, true, length, slice_index, IfOk};
 ghost use Rattle.std.specs.List.{between};
 ghost use Rattle.terms.specs.Bytes.{field};
-ghost use Rattle.terms.specs.Ranges.{are_balances};
-ghost use Rattle.commands.specs.Format.{width, balances as eight, fit, whole, command_at, width_at, outcome, refused, cut, skipped, begin_at, price_at, volume_at, create_at, pay_at, place_at, cancel_at, found_at};
-ghost use Rattle.commands.specs.Shown.{shown, told, skipped_to};
+ghost use Rattle.commands.specs.Format.{whole, command_at, outcome, cut, skipped, begin_at, price_at, volume_at, create_at, pay_at, place_at, cancel_at, found_at};
+ghost use Rattle.commands.specs.Kinds.{letter_of};
+ghost use Rattle.commands.specs.Shown.{shown, told, skipped_to, spanned_to};
 
 use crate::command::{Command, Reading};
+use crate::kind::Kind;
 use crate::ranges::in_range;
 use terms::{Cause, Fault};
-
-// How many bytes a command has, with its letter; 0 for a byte that is no letter of a command.
-pub(crate) fn width_of(letter: u8) -> usize
-    ensures { result ≡ width letter }
-{
-    match letter {
-        b'B' => 37,
-        b'P' => 6,
-        b'V' => 11,
-        b'A' => 13,
-        b'T' => 38,
-        b'O' => 23,
-        b'C' => 19,
-        b'G' => 69,
-        b'E' => 1,
-        _ => 0,
-    }
-}
-
-// The number in the four bytes at a place.
-fn word(bytes: &[u8], at: usize) -> u32
-    requires { at + 4 ≤ length bytes.now }
-    ensures { result ≡ field 4 bytes.now at }
-{
-    u32::from_be_bytes([bytes[at], bytes[at + 1], bytes[at + 2], bytes[at + 3]])
-}
-
-// The number in the eight bytes at a place.
-pub(crate) fn long(bytes: &[u8], at: usize) -> u64
-    requires { at + 8 ≤ length bytes.now }
-    ensures { result ≡ field 8 bytes.now at }
-{
-    u64::from_be_bytes([
-        bytes[at],
-        bytes[at + 1],
-        bytes[at + 2],
-        bytes[at + 3],
-        bytes[at + 4],
-        bytes[at + 5],
-        bytes[at + 6],
-        bytes[at + 7],
-    ])
-}
 
 // The N bytes at a place.
 fn part<const N: usize>(bytes: &[u8], at: usize) -> &[u8; N]
@@ -59,6 +17,22 @@ fn part<const N: usize>(bytes: &[u8], at: usize) -> &[u8; N]
     ensures { result.now ≡ between at (at + N) bytes.now }
 {
     bytes[at..at + N].first_chunk::<N>().unwrap()
+}
+
+// The number in the four bytes at a place.
+fn word(bytes: &[u8], at: usize) -> u32
+    requires { at + 4 ≤ length bytes.now }
+    ensures { result ≡ field 4 bytes.now at }
+{
+    u32::from_be_bytes(*part(bytes, at))
+}
+
+// The number in the eight bytes at a place.
+pub(crate) fn long(bytes: &[u8], at: usize) -> u64
+    requires { at + 8 ≤ length bytes.now }
+    ensures { result ≡ field 8 bytes.now at }
+{
+    u64::from_be_bytes(*part(bytes, at))
 }
 
 fn begin<'a>(bytes: &'a [u8], at: usize) -> Command<'a>
@@ -173,48 +147,55 @@ fn found<'a>(bytes: &'a [u8], at: usize) -> Command<'a>
     }
 }
 
-// The operands of the command whose letter and bytes are there.
-fn operands<'a>(bytes: &'a [u8], at: usize) -> Command<'a>
-    requires { whole bytes.now at ≡ true }
+// The command of a kind whose letter and bytes are there.
+fn operands<'a>(kind: Kind, bytes: &'a [u8], at: usize) -> Command<'a>
+    requires whole { whole bytes.now at ≡ true }
+    requires letter { letter_of kind ≡ slice_index bytes.now at }
     ensures { shown result ≡ command_at bytes.now at }
 {
-    match bytes[at] {
-        b'B' => begin(bytes, at),
-        b'P' => price(bytes, at),
-        b'V' => volume(bytes, at),
-        b'A' => create(bytes, at),
-        b'T' => pay(bytes, at),
-        b'O' => place(bytes, at),
-        b'C' => cancel(bytes, at),
-        b'G' => found(bytes, at),
-        _ => Command::End,
+    match kind {
+        Kind::Begin => begin(bytes, at),
+        Kind::Price => price(bytes, at),
+        Kind::Volume => volume(bytes, at),
+        Kind::Create => create(bytes, at),
+        Kind::Pay => pay(bytes, at),
+        Kind::Place => place(bytes, at),
+        Kind::Cancel => cancel(bytes, at),
+        Kind::Found => found(bytes, at),
+        Kind::End => Command::End,
     }
+}
+
+// The kind of the command at a place, all of whose bytes are there, and the place after it.
+pub(crate) fn span(bytes: &[u8], at: usize) -> Result<(Kind, usize), Fault>
+    ensures place { spanned_to result ≡ skipped bytes.now at }
+    ensures kind { IfOk result (λ s. letter_of s.0 ≡ slice_index bytes.now at) }
+{
+    if at >= bytes.len() {
+        return Err(Cause::Unfinished.at_byte(at));
+    }
+    let kind = Kind::try_from(bytes[at]).map_err(|cause| cause.at_byte(at))?;
+    if bytes.len() - at < kind.width() {
+        return Err(Cause::Unfinished.at_byte(at));
+    }
+    Ok((kind, at + kind.width()))
 }
 
 // The place after the command at a place, of which only the letter and the width are looked at.
 pub fn skip(bytes: &[u8], at: usize) -> Result<usize, Fault>
     ensures { skipped_to result ≡ skipped bytes.now at }
 {
-    if at >= bytes.len() {
-        return Err(Cause::Unfinished.at_byte(at));
-    }
-    let width = width_of(bytes[at]);
-    if width == 0 {
-        return Err(Cause::NoCommand.at_byte(at));
-    }
-    if bytes.len() - at < width {
-        return Err(Cause::Unfinished.at_byte(at));
-    }
-    Ok(at + width)
+    let (_, next) = span(bytes, at)?;
+    Ok(next)
 }
 
 // The command at a place, whatever its operands, and the place after it.
 pub fn parse<'a>(bytes: &'a [u8], at: usize) -> Result<Reading<'a>, Fault>
     ensures { told result ≡ cut bytes.now at }
 {
-    let next = skip(bytes, at)?;
+    let (kind, next) = span(bytes, at)?;
     Ok(Reading {
-        command: operands(bytes, at),
+        command: operands(kind, bytes, at),
         next,
     })
 }

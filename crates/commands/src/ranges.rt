@@ -1,12 +1,16 @@
 // Whether a command's operands are in range.
-ghost use Rattle.std.specs.Prelude.{◌≡◌, length};
+ghost use Rattle.std.specs.Prelude.{◌≡◌};
 ghost use Rattle.terms.specs.Ranges.{is_pair, is_amount, is_price, is_word, is_number};
-ghost use Rattle.commands.specs.Format.{balances as balancesAt, fit};
+ghost use Rattle.commands.specs.Format.{balances as balances_at, fit};
 ghost use Rattle.commands.specs.Shown.{shown};
 
 use crate::command::Command;
 use crate::parser::long;
-use terms::are_balances;
+use std::array;
+use terms::{MAX_BALANCE, are_balances};
+
+// The highest price, 2^24 - 1.
+const MAX_PRICE: u32 = 16_777_215;
 
 fn is_pair(sold: u8, bought: u8) -> bool
     ensures { result ≡ is_pair sold bought }
@@ -17,32 +21,23 @@ fn is_pair(sold: u8, bought: u8) -> bool
 fn is_amount(amount: u64) -> bool
     ensures { result ≡ is_amount amount }
 {
-    amount > 0 && amount <= 68_719_476_735
+    amount > 0 && amount <= MAX_BALANCE
 }
 
 fn is_price(price: u32) -> bool
     ensures { result ≡ is_price price }
 {
-    price > 0 && price <= 16_777_215
+    price > 0 && price <= MAX_PRICE
 }
 
 // The eight balances of a grant, from its bytes.
 pub fn eight_balances(bytes: &[u8; 64]) -> [u64; 8]
-    ensures { result ≡ balancesAt bytes.now 0 }
+    ensures { result ≡ balances_at bytes.now 0 }
 {
-    [
-        long(bytes, 0),
-        long(bytes, 8),
-        long(bytes, 16),
-        long(bytes, 24),
-        long(bytes, 32),
-        long(bytes, 40),
-        long(bytes, 48),
-        long(bytes, 56),
-    ]
+    array::from_fn(|i| long(bytes, 8 * i))
 }
 
-// A number of 32 bits is one.
+// A number of 32 bits is one. That is known only of a number that is read, so each is passed here.
 fn is_word(number: u32) -> bool
     ensures { result ≡ is_word number }
 {

@@ -1,10 +1,16 @@
 -- The numbers of a fill fit 64 bits, by the ranges of a readable block. Assumes nothing.
-use Rattle.std.proofs.Common.{◌≡◌, ℕ, ◌*◌, ◌<◌, ◌≤◌, true, eqb, ltb, List, [], ◌∷◌, length, subst, inl, inr, mul-le-mul, div-le_self, arith}
+use Rattle.std.proofs.Common.{◌≡◌, ℕ, ◌+◌, ◌*◌, ◌<◌, ◌≤◌, Bool, true, false, cond, sum_by, leb, eqb, ltb, List, [], ◌∷◌, length, subst, inl, inr, mul-le-mul, div-le_self, arith}
 use Rattle.std.proofs.lemmas.List.{get_or_past}
+use Rattle.std.proofs.lemmas.List.Sums.{sum_by-cons}
 use Rattle.std.proofs.lemmas.Bool.{cases_lt, and_parts, ltb-true}
 use Rattle.std.proofs.ByRecursion.{all-has, All-get_or}
 use Rattle.terms.specs.declared.Volume.{Volume}
-use Rattle.terms.specs.Ranges.{every, is_price, is_word, is_pair, is_amount, is_balance, fit_volume}
+use Rattle.terms.specs.declared.Offer.{Offer}
+use Rattle.terms.specs.declared.Action.{Action}
+use Rattle.terms.specs.declared.Action.TheVariants.{Create, Pay, Place, Cancel}
+use Rattle.terms.specs.declared.Transaction.{Transaction}
+use Rattle.terms.specs.Asked.{places, placed}
+use Rattle.terms.specs.Ranges.{every, is_price, is_word, is_pair, is_amount, is_balance, is_number, fit_volume, fit_action, fit_transaction}
 use Rattle.terms.specs.Order.{under}
 use Rattle.terms.specs.Holdings.{rising}
 use Rattle.blocks.specs.Readable.{Block, pair, fit_block}
@@ -12,9 +18,36 @@ use Rattle.exchange.specs.Trade.{price, volume, pay_for}
 use Rattle.exchange.proofs.Fit.{all_from, rising_from}
 use Rattle.tally.proofs.Nets.{found, standing}
 
+-- what a transaction in range places is in range
+placed_fits : (p : Offer → Bool) (t : Transaction) → fit_transaction t ≡ true → sum_by (λ o. cond (p o) o.amount 0) (placed t) ≤ 68719476735
+placed_fits p t h =
+    let a = (and_parts (is_word t.sequence) (fit_action t.action) (and_parts (is_number t.source) _ h).1).1 in
+    offered t.action a
+  where
+    part : (b : Bool) (n : ℕ) → n ≤ 68719476735 → 0 + cond b n 0 ≤ 68719476735
+    part true n h = omega arith
+    part false n h = omega arith
+
+    offered : (a : Action) → fit_action a ≡ true → sum_by (λ o. cond (p o) o.amount 0) (places t.source t.sequence a) ≤ 68719476735
+    offered (Create n) e = omega arith
+    offered (Pay r x n) e = omega arith
+    offered (Place x y l n) e =
+        let f = (and_parts (is_number l) (is_amount n) (and_parts (is_pair x y) _ e).1).1 in
+        part (p (record { key = record { sold = x; bought = y; limit = l; account = t.source; sequence = t.sequence }; amount = n })) n
+        (omega (arith, ltb-true n 68719476736 (and_parts (ltb 0 n) (is_balance n) f).1))
+    offered (Cancel x y l q) e = omega arith
+
+pub all_placed_fit : (p : Offer → Bool) (ts : List Transaction) → every fit_transaction ts ≡ true
+    → sum_by (λ t. sum_by (λ o. cond (p o) o.amount 0) (placed t)) ts ≤ length ts * 68719476735
+all_placed_fit p [] h = omega arith
+all_placed_fit p (t ∷ ts) h =
+    let (e, es) = and_parts (fit_transaction t) (every fit_transaction ts) h in
+    omega (arith, sum_by-cons (λ u. sum_by (λ o. cond (p o) o.amount 0) (placed u)) t ts, placed_fits p t e, all_placed_fit p ts es)
+
 pub record Ranges (b : Block) : Type 0 where
   pub prices : (x : ℕ) → price b x < 16777216
   pub volumes : (x y : ℕ) → volume b x y ≤ 68719476735
+  pub transactions : every fit_transaction b.transactions ≡ true
 
 pub ranges : (b : Block) → fit_block b ≡ true → Ranges b
 ranges b e =
@@ -23,8 +56,10 @@ ranges b e =
     let (_, e₃) = and_parts (eqb (length b.prices) 8) _ e₂ in
     let (ps, e₄) = and_parts (every is_price b.prices) _ e₃ in
     let (r, e₅) = and_parts (rising pair b.volumes) _ e₄ in
-    let (vs, _) = and_parts (every fit_volume b.volumes) _ e₅ in
-    record { prices = priced ps; volumes = traded r vs }
+    let (vs, e₆) = and_parts (every fit_volume b.volumes) _ e₅ in
+    let (_, e₇) = and_parts (leb (length b.volumes) 56) _ e₆ in
+    let (ts, _) = and_parts (every fit_transaction b.transactions) _ e₇ in
+    record { prices = priced ps; volumes = traded r vs; transactions = ts }
   where
     priced : every is_price b.prices ≡ true → (x : ℕ) → price b x < 16777216
     priced h x =

@@ -3,8 +3,9 @@
 // standing offers of the key's pair and limit.
 #![tactic(auto)]
 
-ghost use Rattle.std.specs.Prelude.{◌≡◌, ◌≤◌, [], None};
+ghost use Rattle.std.specs.Prelude.{◌≡◌, ◌≤◌, true, [], None};
 ghost use Rattle.terms.specs.declared.Key.{Key};
+ghost use Rattle.terms.specs.Ranges.{every, fit_transaction};
 ghost use Rattle.terms.specs.Holdings.{amount_at};
 ghost use Rattle.blocks.specs.Decoded.{block_of};
 ghost use Rattle.exchange.specs.State.{State};
@@ -19,17 +20,18 @@ mod standing;
 use blocks::DecodedBlock;
 use judging_prices::price;
 use judging_volumes::eligible;
-use measures::{CancelledAhead, Cancelling, OfPair, PlacedAhead, Placing, sum};
+use measures::{cancelled_ahead, cancels, placed_ahead, placed_under, volume_of};
 use offers::OfferBook;
 use standing::standing_ahead;
 use terms::{Key, Transaction};
 
 // The amount in trade under a key: what stands, unless it is cancelled, and what is newly placed.
 fn amount_in_trade<B: OfferBook>(book: &B, transactions: &[Transaction], key: Key) -> u128
+    requires { every fit_transaction transactions.now ≡ true }
     ensures { result ≡ amount_at (trading (scene no_store (B.book book.now) 0 []) (bundle transactions.now)) key }
 {
-    let placed = sum(&Placing { key }, transactions);
-    if sum(&Cancelling { key }, transactions) > 0 {
+    let placed = placed_under(transactions, key);
+    if cancels(transactions, key) > 0 {
         return placed;
     }
     placed + book.amount(key) as u128
@@ -38,10 +40,11 @@ fn amount_in_trade<B: OfferBook>(book: &B, transactions: &[Transaction], key: Ke
 // What is in trade ahead of a key: what stands, less the cancelled, and what is newly placed. This is so where no
 // offer is cancelled twice.
 fn amount_ahead<B: OfferBook>(book: &B, transactions: &[Transaction], key: Key) -> u128
+    requires { every fit_transaction transactions.now ≡ true }
     ensures { ((k : Key) → cancels_of (bundle transactions.now) k ≤ 1) → result ≡ sum_ahead key (trading (scene no_store (B.book book.now) 0 []) (bundle transactions.now)) }
 {
-    let placed = sum(&PlacedAhead { key }, transactions);
-    let cancelled = sum(&CancelledAhead { book, key }, transactions);
+    let placed = placed_ahead(transactions, key);
+    let cancelled = cancelled_ahead(book, transactions, key);
     let standing = standing_ahead(book, key) as u128;
     (placed + standing).saturating_sub(cancelled)
 }
@@ -66,11 +69,7 @@ pub fn filled<B: OfferBook>(book: &B, block: &DecodedBlock, key: Key) -> (u64, u
     if !eligible(prices, key) {
         return (0, 0);
     }
-    let pair = OfPair {
-        sold: key.sold,
-        bought: key.bought,
-    };
-    let volume = sum(&pair, block.volumes());
+    let volume = volume_of(block.volumes(), key);
     let transactions = block.transactions();
     let amount = amount_in_trade(book, transactions, key);
     let ahead = amount_ahead(book, transactions, key);

@@ -4,7 +4,6 @@ ghost use Rattle.terms.specs.Order.{words};
 ghost use Rattle.fills.specs.Ahead.{between, sum_ahead};
 
 use offers::OfferBook;
-use ordered::SortKey;
 use terms::Key;
 
 // The sum of the offers that stand between two keys.
@@ -14,7 +13,7 @@ fn sum_between<B: OfferBook>(book: &B, low: Key, high: Key) -> u64
     let mut total: u64 = 0;
     let mut last = low;
     while let Some(key) = book.next(last) {
-        if !key.precedes(high) {
+        if key >= high {
             return total;
         }
         total += book.amount(key);

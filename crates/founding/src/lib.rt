@@ -14,8 +14,8 @@ ghost use Rattle.founding.specs.Granting.{GrantedOr};
 
 use accounts::{AccountStore, open_with};
 use blocks::DecodedFounding;
-use ordered::{Amounts, total};
-use tally::{Effect, Gather, Net, Place, Rule, report, sums};
+use ordered::total;
+use tally::{Effect, Gather, Ledger, Net, Place, Rule, report};
 use terms::{Cause, Fault, Grant, MAX_BALANCE};
 
 // The accounts that the grants name: each grant counts once, at its account.
@@ -26,18 +26,11 @@ impl Gather<Grant, Place> for Grantees {
     ghost gives = { λ _ g. once g };
 
     fn parts(&self, grant: Grant) -> (Option<Effect<Place>>, Option<Effect<Place>>) {
-        let key = Place {
+        let account = Place {
             first: grant.account as u64,
             second: 0,
         };
-        (
-            Some(Effect {
-                key,
-                plus: 1,
-                minus: 0,
-            }),
-            None,
-        )
+        (Some(Effect::comes(account, 1)), None)
     }
 }
 
@@ -61,24 +54,13 @@ fn accounts_good<S: AccountStore>(store: &S, grants: &[Grant]) -> Result<(), Fau
     ensures row { length grants.now ≤ 1024 → Told (Objected (S.store store.now) grants.now bad_grant) 15 result }
     ensures many { 1024 < length grants.now → result ≡ Err (fault 6 0 0) }
 {
-    let none = Place {
-        first: 0,
-        second: 0,
-    };
-    let mut effects = [Effect {
-        key: none,
-        plus: 0,
-        minus: 0,
-    }; 2048];
-    let mut nets = [Net {
-        key: none,
-        plus: 0,
-        minus: 0,
-    }; 2048];
-    match sums(&Grantees, grants, &mut effects, &mut nets) {
-        None => Err(Cause::TooManyTransactions.into()),
-        Some(n) => report(&Grantable { top: store.top() }, Cause::BadAccount as u8, &nets[0..n]),
-    }
+    let mut ledger = Ledger::new();
+    let nets = ledger.sums(&Grantees, grants)?;
+    report(
+        &Grantable { top: store.top() },
+        Cause::BadAccount as u8,
+        nets,
+    )
 }
 
 // 19: there is room for as many accounts as there are grants.
@@ -91,32 +73,13 @@ fn accounts_fit<S: AccountStore>(store: &S, grants: &[Grant]) -> Result<(), Faul
     Ok(())
 }
 
-// An asset by its number.
-#[derive(Clone, Copy)]
-struct Asset {
-    number: u8,
-}
-
-// What a grant gives of an asset: nothing above asset 7.
-impl Amounts<Asset> for Grant {
-    ghost amount = { λ g x. slice_index g.balances x.number };
-
-    fn amount(&self, by: Asset) -> u64 {
-        if by.number < 8 {
-            self.balances[by.number as usize]
-        } else {
-            0
-        }
-    }
-}
-
 // 23: of no asset is more granted than the largest balance.
 fn amounts_fit(grants: &[Grant]) -> Result<(), Fault>
     ensures { (st : Store) → Told (Objected st grants.now excess_grants) 23 result }
 {
-    for number in 0u8..8 {
-        if total(grants, Asset { number }) > MAX_BALANCE {
-            return Err(Cause::ExcessGrants.at(number as u64, 0));
+    for asset in 0u8..8 {
+        if total(grants, asset) > MAX_BALANCE {
+            return Err(Cause::ExcessGrants.at(asset as u64, 0));
         }
     }
     Ok(())

@@ -3,23 +3,24 @@
 // matter. Assumes nothing: of more than 1,024 transactions, as no readable block has, the test refuses with fault 6.
 #![tactic(auto)]
 
-ghost use Rattle.std.specs.Prelude.{◌≡◌, ℕ, ◌+◌, ◌<◌, ◌≤◌, true, false, ◌&&◌, List, [], length, take, Err, MatchOption, nat_lt};
+ghost use Rattle.std.specs.Prelude.{◌≡◌, ℕ, ◌+◌, ◌<◌, ◌≤◌, ◌&&◌, List, [], length, Err, MatchResult, nat_lt};
 ghost use Rattle.std.specs.List.{flat_map};
 ghost use Rattle.terms.specs.Holdings.{balance_at, amount_at};
 ghost use Rattle.exchange.specs.Faults.{fault};
 ghost use Rattle.exchange.specs.Faults.Cause.{overdrawn};
-ghost use Rattle.tally.specs.Tally.{roomy, Tallied};
+ghost use Rattle.ordered.specs.Orders.{in_turn_is};
+ghost use Rattle.tally.specs.Tally.{Tallied};
 ghost use Rattle.judging_rules.specs.Rows.{Row, scene, bundle};
 ghost use Rattle.judging_balances.specs.Moves.{moves, slot_words};
 
 use accounts::AccountStore;
 use offers::OfferBook;
 use ordered::SortKey;
-use tally::{Effect, Gather, Net, Place, Placed, Rule, report, sums};
+use tally::{Effect, Gather, Ledger, Net, Place, Placed, Rule, report};
 use terms::{Action, Cause, Fault, Key, Transaction};
 
 // An account's balance of an asset.
-#[derive(Clone, Copy)]
+#[derive(Clone, Copy, PartialEq, Eq, PartialOrd, Ord, Default)]
 pub struct Slot {
     pub account: u32,
     pub asset: u8,
@@ -28,9 +29,7 @@ pub struct Slot {
 impl SortKey for Slot {
     ghost rank = { slot_words };
 
-    fn precedes(self, other: Slot) -> bool {
-        self.account < other.account || (self.account == other.account && self.asset < other.asset)
-    }
+    ghost follows = { λ a b. in_turn_is (slot_words a) (slot_words b) };
 }
 
 impl Placed for Slot {
@@ -56,17 +55,27 @@ impl<'a, B: OfferBook> Gather<Transaction, Slot> for Moves<'a, B> {
     ghost gives = { λ m t. moves (amount_at (B.book m.book.now).offers) t };
 
     fn parts(&self, t: Transaction) -> (Option<Effect<Slot>>, Option<Effect<Slot>>) {
+        let own = |asset| Slot {
+            account: t.source,
+            asset,
+        };
         match t.action {
             Action::Create { .. } => (None, None),
             Action::Pay {
                 receiver,
                 asset,
                 amount,
-            } => (
-                Some(takes(t.source, asset, amount)),
-                Some(brings(receiver, asset, amount)),
-            ),
-            Action::Place { sold, amount, .. } => (Some(takes(t.source, sold, amount)), None),
+            } => {
+                let theirs = Slot {
+                    account: receiver,
+                    asset,
+                };
+                (
+                    Some(Effect::goes(own(asset), amount)),
+                    Some(Effect::comes(theirs, amount)),
+                )
+            }
+            Action::Place { sold, amount, .. } => (Some(Effect::goes(own(sold), amount)), None),
             Action::Cancel {
                 sold,
                 bought,
@@ -80,44 +89,23 @@ impl<'a, B: OfferBook> Gather<Transaction, Slot> for Moves<'a, B> {
                     account: t.source,
                     sequence: offer,
                 };
-                (Some(brings(t.source, sold, self.book.amount(key))), None)
+                let amount = self.book.amount(key);
+                (Some(Effect::comes(own(sold), amount)), None)
             }
         }
     }
 }
 
-fn takes(account: u32, asset: u8, amount: u64) -> Effect<Slot>
-    ensures { result ≡ record { key = record { account = account; asset = asset }; plus = 0; minus = amount } }
-{
-    Effect {
-        key: Slot { account, asset },
-        plus: 0,
-        minus: amount,
-    }
-}
-
-fn brings(account: u32, asset: u8, amount: u64) -> Effect<Slot>
-    ensures { result ≡ record { key = record { account = account; asset = asset }; plus = amount; minus = 0 } }
-{
-    Effect {
-        key: Slot { account, asset },
-        plus: amount,
-        minus: 0,
-    }
-}
-
-// What comes to each balance and what goes from it by the transactions: the first so many nets, by rising account and
-// asset. None where there are more than 1,024 transactions or a slice has less than 2,048 places, and only then.
-// `effects` is memory to work in.
-pub fn nets<B: OfferBook>(
+// What comes to each balance and what goes from it by the transactions, by rising account and asset. Of more than 1,024
+// transactions it refuses with fault 6. The ledger is memory to work in.
+pub fn nets<'l, B: OfferBook>(
+    ledger: &'l mut Ledger<Slot>,
     book: &B,
     transactions: &[Transaction],
-    effects: &mut [Effect<Slot>],
-    nets: &mut [Net<Slot>],
-) -> Option<usize>
-    ensures { MatchOption result (roomy (length transactions.now) (length effects.old) (length nets.old) ≡ false) (λ n. (roomy (length transactions.now) (length effects.old) (length nets.old) ≡ true) × (n ≤ 2048) × Tallied slot_words (flat_map (moves (amount_at (B.book book.now).offers)) transactions.now) (take n nets.new)) }
+) -> Result<&'l [Net<Slot>], Fault>
+    ensures { MatchResult result (λ ns. (length transactions.now ≤ 1024) × Tallied slot_words (flat_map (moves (amount_at (B.book book.now).offers)) transactions.now) ns.now) (λ f. (1024 < length transactions.now) × (f ≡ fault 6 0 0)) }
 {
-    sums(&Moves { book }, transactions, effects, nets)
+    ledger.sums(&Moves { book }, transactions)
 }
 
 // The balance and what comes in cover what goes out.
@@ -144,22 +132,7 @@ pub fn balances_covered<S: AccountStore, B: OfferBook>(
     ensures row { length transactions.now ≤ 1024 → Row (scene (S.store store.now) (B.book book.now) 0 []) (bundle transactions.now) overdrawn result }
     ensures many { 1024 < length transactions.now → result ≡ Err (fault 6 0 0) }
 {
-    let none = Slot {
-        account: 0,
-        asset: 0,
-    };
-    let mut effects = [Effect {
-        key: none,
-        plus: 0,
-        minus: 0,
-    }; 2048];
-    let mut entries = [Net {
-        key: none,
-        plus: 0,
-        minus: 0,
-    }; 2048];
-    match nets(book, transactions, &mut effects, &mut entries) {
-        None => Err(Cause::TooManyTransactions.into()),
-        Some(n) => report(&Covered { store }, Cause::Overdrawn as u8, &entries[0..n]),
-    }
+    let mut ledger = Ledger::new();
+    let entries = nets(&mut ledger, book, transactions)?;
+    report(&Covered { store }, Cause::Overdrawn as u8, entries)
 }

@@ -13,8 +13,7 @@ use Rattle.tally.specs.Least.{Told, Broken}
 use Rattle.tally.proofs.Tells.{told_by}
 use Rattle.judging_rules.specs.Rows.{deal}
 use Rattle.judging_prices.specs.declared.Asset.{Asset}
-use Rattle.judging_prices.specs.declared.Side.TheVariants.{Sold}
-use Rattle.judging_prices.specs.Worth.{worth_at}
+use Rattle.judging_prices.specs.Worth.{worth_of}
 
 -- a product of 64 and 32 bits
 pub small : (a p : ℕ) → a < 2 ^ 64 → p < 2 ^ 32 → a * p < 2 ^ 96
@@ -24,29 +23,18 @@ small a p h k =
     let m : a * p ≤ 18446744073709551615 * 4294967295 = mul-le-mul f g in
     omega arith
 
-pub worth_sold : (ps : List ℕ) (vs : List Volume) (x : ℕ) → sum_by (worth_at ps x Sold) vs ≡ volume_of (deal ps vs []) x * price (deal ps vs []) x
-worth_sold ps vs x =
-    sum_by_same (worth_at ps x Sold) (λ v. get_or ps x 0 * cond (eqb v.sold x) v.amount 0) vs (all_of _ each vs)
+pub worth_of_sold : (ps : List ℕ) (vs : List Volume) (x : ℕ) → sum_by (λ v. cond (eqb v.sold x) (worth_of ps v) 0) vs ≡ volume_of (deal ps vs []) x * price (deal ps vs []) x
+worth_of_sold ps vs x =
+    sum_by_same (λ v. cond (eqb v.sold x) (worth_of ps v) 0) (λ v. get_or ps x 0 * cond (eqb v.sold x) v.amount 0) vs (all_of _ each vs)
     ∙ sum_by_scale (get_or ps x 0) (λ v. cond (eqb v.sold x) v.amount 0) vs
     ∙ mul_comm (get_or ps x 0) _
   where
-    each : (v : Volume) → worth_at ps x Sold v ≡ get_or ps x 0 * cond (eqb v.sold x) v.amount 0
+    each : (v : Volume) → cond (eqb v.sold x) (worth_of ps v) 0 ≡ get_or ps x 0 * cond (eqb v.sold x) v.amount 0
     each v =
         elim (cases_Bool (eqb v.sold x)) [
           | inl e ↦ rw e (ap (λ n. v.amount * get_or ps n 0) (eqb-true v.sold x e) ∙ mul_comm v.amount (get_or ps x 0))
           | inr e ↦ rw e (omega arith)
         ]
-
--- a sum that stayed small was not cut off
-pub whole : (r s n : ℕ) → r ≡ min s 340282366920938463463374607431768211455 → r ≤ n * 2 ^ 96 → n ≤ 56 → r ≡ s
-whole r s n e l few = omega arith
-
--- one more is added, up to the largest number
-pub more : (f : Volume → ℕ) (vs : List Volume) (i : ℕ) (d : Volume) (sum r new : ℕ) → i < length vs
-    → sum ≡ min (sum_by f (take i vs)) 340282366920938463463374607431768211455 → r ≡ f (get_or vs i d)
-    → new ≡ min (sum + r) 340282366920938463463374607431768211455
-    → new ≡ min (sum_by f (take (i + 1) vs)) 340282366920938463463374607431768211455
-more f vs i d sum r new l e q n = omega (arith, sum_by_more f vs i d l, e, q, n)
 
 abbrev asset : ℕ → Asset
 asset x = record { number = x }

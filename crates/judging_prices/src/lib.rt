@@ -2,12 +2,12 @@
 // of more than 56 volumes, as no readable block has, the test refuses with fault 4.
 #![tactic(auto)]
 
-ghost use Rattle.std.specs.Prelude.{◌≡◌, ℕ, ◌+◌, ◌*◌, ◌^◌, ◌<◌, ◌≤◌, min, List, [], length, Err, sum_by, nat_lt, slice_index};
-ghost use Rattle.exchange.specs.Trade.{volume_of, worth_for, price as priceIn};
+ghost use Rattle.std.specs.Prelude.{◌≡◌, ℕ, ◌+◌, ◌*◌, ◌^◌, ◌<◌, ◌≤◌, List, [], ◌==◌, length, filter, Err, sum_by, nat_lt, slice_index};
+ghost use Rattle.exchange.specs.Trade.{volume_of, worth_for, price as price_in};
 ghost use Rattle.exchange.specs.Faults.{fault};
 ghost use Rattle.exchange.specs.Faults.Cause.{uncleared};
 ghost use Rattle.judging_rules.specs.Rows.{Row, scene, no_store, no_book, deal};
-ghost use Rattle.judging_prices.specs.Worth.{worth_of, worth_at};
+ghost use Rattle.judging_prices.specs.Worth.{worth_of};
 
 use tally::{Place, Placed, Rule, report};
 use terms::{Cause, Fault, Volume};
@@ -19,7 +19,7 @@ pub const MAX_VOLUMES: usize = 56;
 pub fn price(prices: &[u32; 8], asset: u8) -> u32
     ensures { result ≡ slice_index prices.now asset }
 {
-    if asset < 8 { prices[asset as usize] } else { 0 }
+    prices.get(asset as usize).copied().unwrap_or(0)
 }
 
 // What a volume is worth.
@@ -30,44 +30,28 @@ fn worth(prices: &[u32; 8], v: Volume) -> u128
     v.amount as u128 * price(prices, v.sold) as u128
 }
 
-// Where an asset stands in a volume.
-#[derive(Clone, Copy)]
-enum Side {
-    Sold,
-    Bought,
+// What is sold of an asset, by its worth.
+fn worth_sold(prices: &[u32; 8], volumes: &[Volume], asset: u8) -> u128
+    requires { length volumes.now ≤ 56 }
+    ensures { result ≡ sum_by (worth_of prices.now) (filter (λ v. v.sold == asset) volumes.now) }
+{
+    volumes
+        .iter()
+        .filter(|v| v.sold == asset)
+        .map(|v| worth(prices, *v))
+        .sum()
 }
 
-// What a volume is worth if the asset is on that side of it, or 0.
-fn worth_at(prices: &[u32; 8], asset: u8, side: Side, v: Volume) -> u128
-    ensures is { result ≡ worth_at prices.now asset side v }
-    ensures small { result < 2 ^ 96 }
+// What is sold for an asset, by its worth.
+fn worth_bought(prices: &[u32; 8], volumes: &[Volume], asset: u8) -> u128
+    requires { length volumes.now ≤ 56 }
+    ensures { result ≡ sum_by (worth_of prices.now) (filter (λ v. v.bought == asset) volumes.now) }
 {
-    match side {
-        Side::Sold => {
-            if v.sold == asset {
-                return worth(prices, v);
-            }
-            0
-        }
-        Side::Bought => {
-            if v.bought == asset {
-                return worth(prices, v);
-            }
-            0
-        }
-    }
-}
-
-// The worth of all volumes that have the asset on that side, or the largest u128 where that is larger.
-fn total(prices: &[u32; 8], asset: u8, side: Side, volumes: &[Volume]) -> u128
-    ensures is { result ≡ min (sum_by (worth_at prices.now asset side) volumes.now) 340282366920938463463374607431768211455 }
-    ensures small { result ≤ length volumes.now * 2 ^ 96 }
-{
-    let mut sum: u128 = 0;
-    for v in volumes {
-        sum = sum.saturating_add(worth_at(prices, asset, side, *v));
-    }
-    sum
+    volumes
+        .iter()
+        .filter(|v| v.bought == asset)
+        .map(|v| worth(prices, *v))
+        .sum()
 }
 
 #[derive(Clone, Copy)]
@@ -88,22 +72,20 @@ impl Placed for Asset {
     }
 }
 
-// Of an asset no less is sold than is sold for it, by worth. Leans on there being few volumes.
+// Of an asset no less is sold than is sold for it, by worth.
 #[derive(Drop)]
 struct Clearing<'a> {
     prices: &'a [u32; 8],
     volumes: &'a [Volume],
+    ghost few: { length volumes.now ≤ 56 },
 }
 
 impl<'a> Rule<Asset> for Clearing<'a> {
-    ghost broken = { λ r x. nat_lt (volume_of (deal r.prices.now r.volumes.now []) x.number * priceIn (deal r.prices.now r.volumes.now []) x.number) (worth_for (deal r.prices.now r.volumes.now []) x.number) };
-
-    ghost ready = { λ r. length r.volumes.now ≤ 56 };
+    ghost broken = { λ r x. nat_lt (volume_of (deal r.prices.now r.volumes.now []) x.number * price_in (deal r.prices.now r.volumes.now []) x.number) (worth_for (deal r.prices.now r.volumes.now []) x.number) };
 
     fn breaks(&self, x: Asset) -> bool {
-        let sold = total(self.prices, x.number, Side::Sold, self.volumes);
-        let bought = total(self.prices, x.number, Side::Bought, self.volumes);
-        sold < bought
+        worth_sold(self.prices, self.volumes, x.number)
+            < worth_bought(self.prices, self.volumes, x.number)
     }
 }
 

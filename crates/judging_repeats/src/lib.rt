@@ -4,7 +4,6 @@
 #![tactic(auto)]
 
 ghost use Rattle.std.specs.Prelude.{◌≡◌, ℕ, ◌+◌, ◌<◌, ◌≤◌, List, [], ◌∷◌, length, Err, nat_lt};
-ghost use Rattle.std.specs.Option.{option_to_list};
 ghost use Rattle.terms.specs.Order.{words, Rising, under};
 ghost use Rattle.exchange.specs.Trade.{created, cancelled};
 ghost use Rattle.exchange.specs.Faults.{fault};
@@ -13,8 +12,8 @@ ghost use Rattle.judging_rules.specs.Rows.{Row, scene, no_store, no_book, bundle
 ghost use Rattle.judging_repeats.specs.Counts.{ones, tagged, is_bad};
 
 use accounts::AccountStore;
-use tally::{Effect, Gather, Net, Place, Rule, look_up, report, sums};
-use terms::{Action, Cause, Fault, Key, Transaction};
+use tally::{Effect, Gather, Ledger, Net, Place, Placed, Rule, look_up, report};
+use terms::{Cause, Fault, Key, Transaction};
 
 #[derive(Drop)]
 struct Tags;
@@ -23,18 +22,7 @@ impl Gather<Transaction, Place> for Tags {
     ghost gives = { λ _ t. ones (tagged t) };
 
     fn parts(&self, t: Transaction) -> (Option<Effect<Place>>, Option<Effect<Place>>) {
-        let key = Place {
-            first: t.source as u64,
-            second: t.sequence as u64,
-        };
-        (
-            Some(Effect {
-                key,
-                plus: 1,
-                minus: 0,
-            }),
-            None,
-        )
+        (Some(Effect::comes(t.place(), 1)), None)
     }
 }
 
@@ -54,24 +42,9 @@ pub fn tags_differ(transactions: &[Transaction]) -> Result<(), Fault>
     ensures row { length transactions.now ≤ 1024 → Row (scene no_store no_book 0 []) (bundle transactions.now) repeated result }
     ensures many { 1024 < length transactions.now → result ≡ Err (fault 6 0 0) }
 {
-    let none = Place {
-        first: 0,
-        second: 0,
-    };
-    let mut effects = [Effect {
-        key: none,
-        plus: 0,
-        minus: 0,
-    }; 2048];
-    let mut nets = [Net {
-        key: none,
-        plus: 0,
-        minus: 0,
-    }; 2048];
-    match sums(&Tags, transactions, &mut effects, &mut nets) {
-        None => Err(Cause::TooManyTransactions.into()),
-        Some(n) => report(&Single, Cause::Repeated as u8, &nets[0..n]),
-    }
+    let mut ledger = Ledger::new();
+    let nets = ledger.sums(&Tags, transactions)?;
+    report(&Single, Cause::Repeated as u8, nets)
 }
 
 #[derive(Drop)]
@@ -81,17 +54,7 @@ impl Gather<Transaction, u32> for Openings {
     ghost gives = { λ _ t. ones (created t) };
 
     fn parts(&self, t: Transaction) -> (Option<Effect<u32>>, Option<Effect<u32>>) {
-        match t.action {
-            Action::Create { account } => (
-                Some(Effect {
-                    key: account,
-                    plus: 1,
-                    minus: 0,
-                }),
-                None,
-            ),
-            _ => (None, None),
-        }
+        (t.created().map(|account| Effect::comes(account, 1)), None)
     }
 }
 
@@ -99,13 +62,7 @@ impl Gather<Transaction, u32> for Openings {
 fn is_bad<S: AccountStore>(store: &S, nets: &[Net<u32>], account: u32) -> bool
     ensures { Rising (λ x. x.key ∷ []) nets.now → result ≡ is_bad (S.store store.now) nets.now account }
 {
-    if store.stands(account) {
-        return true;
-    }
-    if account > store.top() {
-        return true;
-    }
-    look_up(nets, account).plus > 1
+    store.stands(account) || account > store.top() || look_up(nets, account).plus > 1
 }
 
 // A new account does not stand, is not above the top, and is opened once. Leans on the nets being in order.
@@ -121,10 +78,8 @@ impl<'a, S: AccountStore> Rule<Transaction> for Fresh<'a, S> {
     ghost ready = { λ r. Rising (λ x. x.key ∷ []) r.nets.now };
 
     fn breaks(&self, t: Transaction) -> bool {
-        match t.action {
-            Action::Create { account } => is_bad(self.store, self.nets, account),
-            _ => false,
-        }
+        t.created()
+            .is_some_and(|account| is_bad(self.store, self.nets, account))
     }
 }
 
@@ -133,48 +88,9 @@ pub fn openings_good<S: AccountStore>(store: &S, transactions: &[Transaction]) -
     ensures row { length transactions.now ≤ 1024 → Row (scene (S.store store.now) no_book 0 []) (bundle transactions.now) bad_account result }
     ensures many { 1024 < length transactions.now → result ≡ Err (fault 6 0 0) }
 {
-    let mut effects = [Effect {
-        key: 0,
-        plus: 0,
-        minus: 0,
-    }; 2048];
-    let mut nets = [Net {
-        key: 0,
-        plus: 0,
-        minus: 0,
-    }; 2048];
-    match sums(&Openings, transactions, &mut effects, &mut nets) {
-        None => Err(Cause::TooManyTransactions.into()),
-        Some(n) => report(
-            &Fresh {
-                store,
-                nets: &nets[0..n],
-            },
-            Cause::BadAccount as u8,
-            transactions,
-        ),
-    }
-}
-
-// The key of the offer that a transaction cancels.
-fn cancelled_key(t: Transaction) -> Option<Key>
-    ensures { option_to_list result ≡ cancelled t }
-{
-    match t.action {
-        Action::Cancel {
-            sold,
-            bought,
-            limit,
-            offer,
-        } => Some(Key {
-            sold,
-            bought,
-            limit,
-            account: t.source,
-            sequence: offer,
-        }),
-        _ => None,
-    }
+    let mut ledger = Ledger::new();
+    let nets = ledger.sums(&Openings, transactions)?;
+    report(&Fresh { store, nets }, Cause::BadAccount as u8, transactions)
 }
 
 #[derive(Drop)]
@@ -184,17 +100,7 @@ impl Gather<Transaction, Key> for Cancellations {
     ghost gives = { λ _ t. ones (cancelled t) };
 
     fn parts(&self, t: Transaction) -> (Option<Effect<Key>>, Option<Effect<Key>>) {
-        match cancelled_key(t) {
-            Some(key) => (
-                Some(Effect {
-                    key,
-                    plus: 1,
-                    minus: 0,
-                }),
-                None,
-            ),
-            None => (None, None),
-        }
+        (t.cancelled().map(|key| Effect::comes(key, 1)), None)
     }
 }
 
@@ -210,10 +116,8 @@ impl<'a> Rule<Transaction> for CancelledOnce<'a> {
     ghost ready = { λ r. Rising (λ x. words x.key) r.nets.now };
 
     fn breaks(&self, t: Transaction) -> bool {
-        match cancelled_key(t) {
-            Some(key) => look_up(self.nets, key).plus > 1,
-            None => false,
-        }
+        t.cancelled()
+            .is_some_and(|key| look_up(self.nets, key).plus > 1)
     }
 }
 
@@ -222,25 +126,11 @@ pub fn cancelled_once(transactions: &[Transaction]) -> Result<(), Fault>
     ensures row { length transactions.now ≤ 1024 → Row (scene no_store no_book 0 []) (bundle transactions.now) cancelled_twice result }
     ensures many { 1024 < length transactions.now → result ≡ Err (fault 6 0 0) }
 {
-    let none = Key {
-        sold: 0,
-        bought: 0,
-        limit: 0,
-        account: 0,
-        sequence: 0,
-    };
-    let mut effects = [Effect {
-        key: none,
-        plus: 0,
-        minus: 0,
-    }; 2048];
-    let mut nets = [Net {
-        key: none,
-        plus: 0,
-        minus: 0,
-    }; 2048];
-    match sums(&Cancellations, transactions, &mut effects, &mut nets) {
-        None => Err(Cause::TooManyTransactions.into()),
-        Some(n) => report(&CancelledOnce { nets: &nets[0..n] }, Cause::CancelledTwice as u8, transactions),
-    }
+    let mut ledger = Ledger::new();
+    let nets = ledger.sums(&Cancellations, transactions)?;
+    report(
+        &CancelledOnce { nets },
+        Cause::CancelledTwice as u8,
+        transactions,
+    )
 }

@@ -3,45 +3,36 @@
 #![tactic(auto)]
 
 ghost use Rattle.std.specs.Prelude.{◌≡◌, ℕ, ◌+◌, ◌<◌, ◌≤◌, List, [], length, Err};
+ghost use Rattle.std.specs.List.{flat_map};
+ghost use Rattle.terms.specs.Asked.{created, placed, cancelled};
 ghost use Rattle.exchange.specs.Faults.{fault};
 ghost use Rattle.exchange.specs.Faults.Cause.{accounts_full, offers_full};
 ghost use Rattle.judging_rules.specs.Rows.{Row, scene, no_store, no_book, bundle};
-ghost use Rattle.judging_room.specs.Asks.{asks};
 
 use accounts::AccountStore;
 use offers::OfferBook;
-use ordered::{Amounts, total};
 use tally::MAX_ITEMS;
-use terms::{Action, Cause, Fault, Transaction};
+use terms::{Cause, Fault, Transaction};
 
-// What may be counted of transactions.
-#[derive(Clone, Copy)]
-pub enum Ask {
-    Creation,
-    Placement,
-    Cancellation,
+// How many accounts they open.
+fn openings(transactions: &[Transaction]) -> usize
+    ensures { result ≡ length (flat_map created transactions.now) }
+{
+    transactions.iter().filter(|t| t.created().is_some()).count()
 }
 
-// A transaction asks for one of these, or for none.
-impl Amounts<Ask> for Transaction {
-    ghost amount = { asks };
+// How many offers they place.
+fn placements(transactions: &[Transaction]) -> usize
+    ensures { result ≡ length (flat_map placed transactions.now) }
+{
+    transactions.iter().filter(|t| t.placed().is_some()).count()
+}
 
-    fn amount(&self, by: Ask) -> u64 {
-        match by {
-            Ask::Creation => match self.action {
-                Action::Create { .. } => 1,
-                _ => 0,
-            },
-            Ask::Placement => match self.action {
-                Action::Place { .. } => 1,
-                _ => 0,
-            },
-            Ask::Cancellation => match self.action {
-                Action::Cancel { .. } => 1,
-                _ => 0,
-            },
-        }
-    }
+// How many offers they cancel.
+fn cancellations(transactions: &[Transaction]) -> usize
+    ensures { result ≡ length (flat_map cancelled transactions.now) }
+{
+    transactions.iter().filter(|t| t.cancelled().is_some()).count()
 }
 
 // The accounts that stand and the new ones do not exceed the store's capacity.
@@ -52,7 +43,7 @@ pub fn accounts_fit<S: AccountStore>(store: &S, transactions: &[Transaction]) ->
     if transactions.len() > MAX_ITEMS {
         return Err(Cause::TooManyTransactions.into());
     }
-    let new = total(transactions, Ask::Creation);
+    let new = openings(transactions);
     let room = store.capacity() as u128;
     let wanted = store.count() as u128 + new as u128;
     if room < wanted {
@@ -69,8 +60,8 @@ pub fn offers_fit<B: OfferBook>(book: &B, transactions: &[Transaction]) -> Resul
     if transactions.len() > MAX_ITEMS {
         return Err(Cause::TooManyTransactions.into());
     }
-    let new = total(transactions, Ask::Placement);
-    let gone = total(transactions, Ask::Cancellation);
+    let new = placements(transactions);
+    let gone = cancellations(transactions);
     let room = book.capacity() as u128 + gone as u128;
     let wanted = book.count() as u128 + new as u128;
     if room < wanted {

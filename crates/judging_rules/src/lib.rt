@@ -13,7 +13,7 @@ ghost use Rattle.judging_rules.specs.Rows.{Row, scene, no_store, no_book, bundle
 use accounts::AccountStore;
 use offers::OfferBook;
 use tally::{Rule, report};
-use terms::{Action, Cause, Fault, Key, Transaction};
+use terms::{Action, Cause, Fault, Transaction};
 
 // The source stands.
 #[derive(Drop)]
@@ -95,24 +95,8 @@ impl<'a, B: OfferBook> Rule<Transaction> for Standing<'a, B> {
     ghost broken = { λ r t. any (λ k. nat_eq (amount_at (B.book r.book.now).offers k) 0) (cancelled t) };
 
     fn breaks(&self, t: Transaction) -> bool {
-        match t.action {
-            Action::Cancel {
-                sold,
-                bought,
-                limit,
-                offer,
-            } => {
-                let key = Key {
-                    sold,
-                    bought,
-                    limit,
-                    account: t.source,
-                    sequence: offer,
-                };
-                self.book.amount(key) == 0
-            }
-            _ => false,
-        }
+        t.cancelled()
+            .is_some_and(|key| self.book.amount(key) == 0)
     }
 }
 

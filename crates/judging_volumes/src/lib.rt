@@ -9,7 +9,7 @@ ghost use Rattle.terms.specs.declared.Key.{Key};
 ghost use Rattle.terms.specs.Order.{Rising};
 ghost use Rattle.terms.specs.Holdings.{amount_at};
 ghost use Rattle.blocks.specs.Readable.{pair};
-ghost use Rattle.exchange.specs.Trade.{cancels_of, eligible as eligibleAt, supply};
+ghost use Rattle.exchange.specs.Trade.{cancels_of, eligible as eligible_at, supply};
 ghost use Rattle.exchange.specs.Faults.{fault};
 ghost use Rattle.exchange.specs.Faults.Cause.{excess_volume};
 ghost use Rattle.tally.specs.Least.{spot};
@@ -19,12 +19,12 @@ ghost use Rattle.judging_volumes.specs.Trades.{pair_of, trades};
 
 use judging_prices::price;
 use offers::OfferBook;
-use tally::{Effect, Gather, Net, Place, Rule, look_up, report, sums};
+use tally::{Effect, Gather, Ledger, Net, Place, Rule, look_up, report};
 use terms::{Action, Cause, Fault, Key, Transaction, Volume};
 
 // The prices meet the key's limit.
 pub fn eligible(prices: &[u32; 8], key: Key) -> bool
-    ensures { result ≡ eligibleAt (deal prices.now [] []) key }
+    ensures { result ≡ eligible_at (deal prices.now [] []) key }
 {
     let wanted = key.limit as u128 * price(prices, key.bought) as u128;
     wanted <= price(prices, key.sold) as u128 * 65536
@@ -39,16 +39,12 @@ fn highest_limit(prices: &[u32; 8], sold: u8, bought: u8) -> u32
         return u32::MAX;
     }
     let highest = price(prices, sold) as u64 * 65536 / unit;
-    if highest < u32::MAX as u64 {
-        highest as u32
-    } else {
-        u32::MAX
-    }
+    highest.min(u32::MAX as u64) as u32
 }
 
 // An amount, if the key is eligible, or 0.
 fn eligible_amount(prices: &[u32; 8], key: Key, amount: u64) -> u64
-    ensures { result ≡ (if eligibleAt (deal prices.now [] []) key then amount else 0) }
+    ensures { result ≡ (if eligible_at (deal prices.now [] []) key then amount else 0) }
 {
     if eligible(prices, key) { amount } else { 0 }
 }
@@ -75,8 +71,7 @@ impl<'a, B: OfferBook> Gather<Transaction, Place> for Trades<'a, B> {
 
     fn parts(&self, t: Transaction) -> (Option<Effect<Place>>, Option<Effect<Place>>) {
         match t.action {
-            Action::Create { .. } => (None, None),
-            Action::Pay { .. } => (None, None),
+            Action::Create { .. } | Action::Pay { .. } => (None, None),
             Action::Place {
                 sold,
                 bought,
@@ -90,15 +85,8 @@ impl<'a, B: OfferBook> Gather<Transaction, Place> for Trades<'a, B> {
                     account: t.source,
                     sequence: t.sequence,
                 };
-                let plus = eligible_amount(self.prices, key, amount);
-                (
-                    Some(Effect {
-                        key: pair_of(key),
-                        plus,
-                        minus: 0,
-                    }),
-                    None,
-                )
+                let amount = eligible_amount(self.prices, key, amount);
+                (Some(Effect::comes(pair_of(key), amount)), None)
             }
             Action::Cancel {
                 sold,
@@ -113,15 +101,8 @@ impl<'a, B: OfferBook> Gather<Transaction, Place> for Trades<'a, B> {
                     account: t.source,
                     sequence: offer,
                 };
-                let minus = eligible_amount(self.prices, key, self.book.amount(key));
-                (
-                    Some(Effect {
-                        key: pair_of(key),
-                        plus: 0,
-                        minus,
-                    }),
-                    None,
-                )
+                let amount = eligible_amount(self.prices, key, self.book.amount(key));
+                (Some(Effect::goes(pair_of(key), amount)), None)
             }
         }
     }
@@ -145,13 +126,11 @@ impl<'a, B: OfferBook> Rule<Volume> for Supplied<'a, B> {
     fn breaks(&self, v: Volume) -> bool {
         let limit = highest_limit(self.prices, v.sold, v.bought);
         let resting = self.book.up_to(v.sold, v.bought, limit) as u128;
-        let net = look_up(
-            self.nets,
-            Place {
-                first: v.sold as u64,
-                second: v.bought as u64,
-            },
-        );
+        let pair = Place {
+            first: v.sold as u64,
+            second: v.bought as u64,
+        };
+        let net = look_up(self.nets, pair);
         resting.saturating_add(net.plus) < (v.amount as u128).saturating_add(net.minus)
     }
 }
@@ -166,35 +145,13 @@ pub fn volumes_supplied<'a, B: OfferBook>(
     ensures row { length transactions.now ≤ 1024 → ((k : Key) → cancels_of (bundle transactions.now) k ≤ 1) → Rising pair volumes.now → Row (scene no_store (B.book book.now) 0 []) (deal prices.now volumes.now transactions.now) excess_volume result }
     ensures many { 1024 < length transactions.now → result ≡ Err (fault 6 0 0) }
 {
-    let none = Place {
-        first: 0,
-        second: 0,
-    };
-    let mut effects = [Effect {
-        key: none,
-        plus: 0,
-        minus: 0,
-    }; 2048];
-    let mut nets = [Net {
-        key: none,
-        plus: 0,
-        minus: 0,
-    }; 2048];
-    match sums(
-        &Trades { prices, book },
+    let mut ledger = Ledger::new();
+    let nets = ledger.sums(&Trades { prices, book }, transactions)?;
+    let rule = Supplied {
+        prices,
+        book,
         transactions,
-        &mut effects,
-        &mut nets,
-    ) {
-        None => Err(Cause::TooManyTransactions.into()),
-        Some(n) => {
-            let rule = Supplied {
-                prices,
-                book,
-                transactions,
-                nets: &nets[0..n],
-            };
-            report(&rule, Cause::ExcessVolume as u8, volumes)
-        }
-    }
+        nets,
+    };
+    report(&rule, Cause::ExcessVolume as u8, volumes)
 }

@@ -1,3 +1,4 @@
 pub mod Rising
-pub mod Windows
+pub mod Cuts
 pub mod Shift
+pub mod Keys

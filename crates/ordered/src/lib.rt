@@ -7,4 +7,4 @@ pub mod sums;
 pub mod table;
 
 pub use sums::{Amounts, total};
-pub use table::{Keyed, SortKey, Table};
+pub use table::{Keyed, SortKey, Table, search};

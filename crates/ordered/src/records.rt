@@ -1,19 +1,18 @@
 // The exchange's records as tables hold them: accounts go by their number and name their balances, offers go by
-// their key and name the amount that they sell. Assumes nothing.
+// their key and name the amount that they sell, grants name their balances. Assumes nothing.
 ghost use Rattle.std.specs.Prelude.{◌≡◌, List, [], ◌∷◌, if◌then◌else◌, nat_eq, slice_index};
 ghost use Rattle.terms.specs.Order.{words};
+ghost use Rattle.ordered.specs.Orders.{in_turn_is};
 
 use crate::sums::Amounts;
 use crate::table::{Keyed, SortKey};
-use terms::{Account, Key, Offer};
+use terms::{Account, Grant, Key, Offer};
 
 // A number is compared as it is.
 impl SortKey for u32 {
     ghost rank = { λ n. n ∷ [] };
 
-    fn precedes(self, other: u32) -> bool {
-        self < other
-    }
+    ghost follows = { λ m n. in_turn_is (m ∷ []) (n ∷ []) };
 }
 
 // A number on its own is a record too, whose key it is.
@@ -38,34 +37,34 @@ impl Keyed for Account {
 }
 
 // The balance of an asset: 0 for an asset above 7.
+fn balance(balances: &[u64; 8], asset: u8) -> u64
+    ensures { result ≡ slice_index balances.now asset }
+{
+    balances.get(asset as usize).copied().unwrap_or(0)
+}
+
+// An account names its balances.
 impl Amounts<u8> for Account {
     ghost amount = { λ a x. slice_index a.balances x };
 
     fn amount(&self, by: u8) -> u64 {
-        if by < 8 {
-            self.balances[by as usize]
-        } else {
-            0
-        }
+        balance(&self.balances, by)
+    }
+}
+
+// A grant names the balances that it gives.
+impl Amounts<u8> for Grant {
+    ghost amount = { λ g x. slice_index g.balances x };
+
+    fn amount(&self, by: u8) -> u64 {
+        balance(&self.balances, by)
     }
 }
 
 impl SortKey for Key {
-    ghost rank = { λ k. words k };
+    ghost rank = { words };
 
-    fn precedes(self, other: Key) -> bool {
-        if self.sold != other.sold {
-            self.sold < other.sold
-        } else if self.bought != other.bought {
-            self.bought < other.bought
-        } else if self.limit != other.limit {
-            self.limit < other.limit
-        } else if self.account != other.account {
-            self.account < other.account
-        } else {
-            self.sequence < other.sequence
-        }
-    }
+    ghost follows = { λ j k. in_turn_is (words j) (words k) };
 }
 
 impl Keyed for Offer {

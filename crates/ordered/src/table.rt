@@ -3,17 +3,18 @@
 // Assumes nothing.
 ghost use Rattle.std.specs.Prelude.{◌≡◌, ℕ, ◌+◌, ◌-◌, ◌<◌, ◌≤◌, min, ◌&&◌, List, length, take, if◌then◌else◌, sum_by, MatchOption, MatchResult, nat_le, nat_lt, slice_index_or, slice_set};
 ghost use Rattle.std.specs.List.{insert, remove};
+ghost use Rattle.std.specs.Ordering.{is_lt};
 ghost use Rattle.terms.specs.Order.{lower, Rising, above};
 ghost use Rattle.ordered.specs.Places.{Gap, At, Cut, Past, told};
 
 use crate::sums::{Amounts, total};
 
 // A key, by the numbers that it is compared by, in turn.
-pub trait SortKey: Copy {
+pub trait SortKey: Copy + Ord {
     ghost rank: { Self → List ℕ };
 
-    fn precedes(self, other: Self) -> bool
-        ensures { result ≡ lower (rank self) (rank other) };
+    // One key is below another where its numbers are.
+    ghost follows: { (a b : Self) → is_lt (Self.cmp a b) ≡ lower (rank a) (rank b) };
 }
 
 // A record that names its key.
@@ -28,50 +29,28 @@ pub trait Keyed: Copy {
 
 // How many records lie below `key`.
 fn lower_bound<R: Keyed>(records: &[R], key: R::Id) -> usize
-    ensures { Rising (λ x. R.Id.SortKey.rank (R.Keyed.key x)) records.now → Cut (λ x. R.Id.SortKey.rank (R.Keyed.key x)) records.now (R.Id.SortKey.rank key) result }
+    ensures within { result ≤ length records.now }
+    ensures cut { Rising (λ x. R.Id.SortKey.rank (R.Keyed.key x)) records.now → Cut (λ x. R.Id.SortKey.rank (R.Keyed.key x)) records.now (R.Id.SortKey.rank key) result }
 {
-    let mut low = 0;
-    let mut high = records.len();
-    while low < high {
-        let mid = low + (high - low) / 2;
-        if records[mid].key().precedes(key) {
-            low = mid + 1;
-        } else {
-            high = mid;
-        }
-    }
-    low
+    records.partition_point(|x| x.key() < key)
 }
 
 // How many records do not lie above `key`: the place of the lowest one above it.
 fn upper_bound<R: Keyed>(records: &[R], key: R::Id) -> usize
     ensures { Rising (λ x. R.Id.SortKey.rank (R.Keyed.key x)) records.now → Past (λ x. R.Id.SortKey.rank (R.Keyed.key x)) records.now (R.Id.SortKey.rank key) result }
 {
-    let i = lower_bound(records, key);
-    if i < records.len() {
-        if key.precedes(records[i].key()) {
-            i
-        } else {
-            i + 1
-        }
-    } else {
-        i
-    }
+    records.partition_point(|x| x.key() <= key)
 }
 
-// The place of `key`, or in Err where it would go.
-fn search<R: Keyed>(records: &[R], key: R::Id) -> Result<usize, usize>
-    ensures { Rising (λ x. R.Id.SortKey.rank (R.Keyed.key x)) records.now → MatchResult result (λ i. At (λ x. R.Id.SortKey.rank (R.Keyed.key x)) records.now (R.Id.SortKey.rank key) i) (λ i. Gap (λ x. R.Id.SortKey.rank (R.Keyed.key x)) records.now (R.Id.SortKey.rank key) i) }
+// The place of `key` among records whose keys rise, or in Err where it would go.
+pub fn search<R: Keyed>(records: &[R], key: R::Id) -> Result<usize, usize>
+    ensures within { MatchResult result (λ i. i < length records.now) (λ i. i ≤ length records.now) }
+    ensures found { Rising (λ x. R.Id.SortKey.rank (R.Keyed.key x)) records.now → MatchResult result (λ i. At (λ x. R.Id.SortKey.rank (R.Keyed.key x)) records.now (R.Id.SortKey.rank key) i) (λ i. Gap (λ x. R.Id.SortKey.rank (R.Keyed.key x)) records.now (R.Id.SortKey.rank key) i) }
 {
     let i = lower_bound(records, key);
-    if i < records.len() {
-        if key.precedes(records[i].key()) {
-            Err(i)
-        } else {
-            Ok(i)
-        }
-    } else {
-        Err(i)
+    match records.get(i) {
+        Some(x) if x.key() <= key => Ok(i),
+        _ => Err(i),
     }
 }
 
@@ -150,20 +129,15 @@ impl<'a, R: Keyed> Table<'a, R> {
         ensures { Rising (λ x. R.Id.SortKey.rank (R.Keyed.key x)) (take self.now.len self.now.slots.now) → told R.Id.SortKey.rank result ≡ above (λ x. R.Id.SortKey.rank (R.Keyed.key x)) (take self.now.len self.now.slots.now) (R.Id.SortKey.rank key) }
     {
         let all = self.records();
-        let i = upper_bound(all, key);
-        if i < all.len() {
-            Some(all[i].key())
-        } else {
-            None
-        }
+        let x = all.get(upper_bound(all, key))?;
+        Some(x.key())
     }
 
     // The record at a place.
     pub fn get(&self, at: usize) -> Option<R>
         ensures { MatchOption result (length (take self.now.len self.now.slots.now) ≤ at) (λ x. (at < length (take self.now.len self.now.slots.now)) × (x ≡ slice_index_or (take self.now.len self.now.slots.now) at x)) }
     {
-        let all = self.records();
-        if at < all.len() { Some(all[at]) } else { None }
+        self.records().get(at).copied()
     }
 
     // Puts a record in at a place, and those from there on move one place up. False where the place lies past the

@@ -1,95 +1,86 @@
--- Rows in order: two lists of the same rows are equal once both are in order. Assumes nothing.
-use Rattle.std.proofs.Common.{◌≡◌, ℕ, suc, ◌+◌, ◌<◌, Bool, true, false, cond, eqb, ltb, List, [], ◌∷◌, length, get_or, Ordering, Less, Equal, Greater, sym, refl, ap, ◌∙◌, subst, inl, inr, arith}
+-- Lists in order: two lists of the same entries are equal once both are in order. Assumes nothing.
+use Rattle.std.proofs.Common.{◌≡◌, ℕ, suc, ◌+◌, ◌<◌, Bool, true, false, cond, List, [], ◌∷◌, length, get_or, Ordering, Less, Equal, Greater, sym, refl, ap, ◌∙◌, subst, inl, inr, arith}
 use native.Mathlib.Numerals.{unary_clauses}
-use Rattle.std.specs.List.{AllByRecursion}
-use Rattle.std.specs.List.Sorted.{IsPermutation, IsSortedWithin}
-use Rattle.std.specs.Cmp.{IsStrictWeakOrder}
-use Rattle.std.specs.Cmp.Lexicographic.{slice_cmp}
-use Rattle.std.specs.Ordering.{is_lt, ordering_then, nat_cmp}
+use Rattle.std.specs.List.{sum_by}
+use Rattle.std.specs.List.Sorted.{IsPermutation, IsSorted}
+use Rattle.std.specs.Cmp.{IsTotalOrder, Equal-is, tied_itself}
+use Rattle.std.specs.Ordering.{is_lt, is_eq, ordering_reverse}
 use Rattle.std.proofs.lemmas.List.Sums.{sum_by-cons}
-use Rattle.std.proofs.lemmas.List.Sorted.{sorted_far, sum_by-IsPermutation}
-use Rattle.std.proofs.lemmas.Bool.{cases_Bool, both_ways, cond-true}
-use Rattle.std.proofs.lemmas.Bool.Decides.{nat_tests}
-use Rattle.terms.specs.Order.{lower, same, under}
-use Rattle.terms.proofs.Order.{total, transitive, asymmetric, same_refl}
-use Rattle.exchange.proofs.Rising.{absent}
+use Rattle.std.proofs.lemmas.List.Sorted.{sorted_far, ranks_by, sum_by-IsPermutation}
+use Rattle.std.proofs.lemmas.Bool.{cases_Bool, both_ways}
 
--- the first numbers decide, or the rest does
-head : (p e b : Bool) (o : Ordering) → is_lt o ≡ b → (p ≡ true → e ≡ false) → is_lt (ordering_then (cond p Less (cond e Equal Greater)) o) ≡ cond e b p
-head true true b o h f = let z : true ≡ false = f refl in cc
-head true false b o h f = refl
-head false true b o h f = h
-head false false b o h f = refl
+-- neither is below the other
+level : (r s : Ordering) → r ≡ ordering_reverse s → is_lt r ≡ false → is_lt s ≡ false → r ≡ Equal
+level Less s e p q = cc
+level Equal s e p q = refl
+level Greater Less e p q = cc
+level Greater Equal e p q = cc
+level Greater Greater e p q = cc
 
--- the library's order of lists of numbers is this one
-pub lex_lower : (k l : List ℕ) → is_lt (slice_cmp nat_cmp k l) ≡ lower k l
-lex_lower [] [] = refl
-lex_lower [] (y ∷ ys) = refl
-lex_lower (x ∷ xs) [] = refl
-lex_lower (x ∷ xs) (y ∷ ys) = let h : is_lt (slice_cmp nat_cmp xs ys) ≡ lower xs ys = lex_lower xs ys in head (ltb x y) (eqb x y) (lower xs ys) (slice_cmp nat_cmp xs ys) h (λ t. grind (arith, nat_tests))
+-- an order that tells apart all that are not equal
+module _ {X : Type 0} (R : X → X → Ordering) (o : IsTotalOrder R) (exact : (x y : X) → R x y ≡ Equal → x ≡ y) where
+  abbrev below : X → X → Bool
+  below x y = is_lt (R x y)
 
--- not below, and not below again
-chain : (k l m : List ℕ) → lower k l ≡ false → lower l m ≡ false → lower k m ≡ false
-chain k l m p q = elim (cases_Bool (lower k m)) [
-  | inr e ↦ e
-  | inl e ↦ elim (cases_Bool (lower m l)) [
-    | inl d ↦ absurd (both_ways (lower k l) p (transitive k m l e d))
-    | inr d ↦ absurd (both_ways (lower k l) p (subst (λ w. lower k w ≡ true) (sym (total l m q d)) e))
+  one : (x y : X) → below x y ≡ false → below y x ≡ false → x ≡ y
+  one x y p q = exact x y (level (R x y) (R y x) (o.antisymm x y) p q)
+
+  -- none of a list is below one before it
+  abbrev Over : X → List X → Type 0
+  Over x [] = Unit {0}
+  Over x (y ∷ ys) = (below y x ≡ false) × Over x ys
+
+  abbrev InOrder : List X → Type 0
+  InOrder [] = Unit {0}
+  InOrder (x ∷ xs) = Over x xs × InOrder xs
+
+  over_from : (x : X) (ys : List X) → ((i : ℕ) (d : X) → i < length ys → below (get_or ys i d) x ≡ false) → Over x ys
+  over_from x [] h = tt
+  over_from x (y ∷ ys) h = (h 0 y (omega arith), over_from x ys (λ i d p. h (suc i) d (omega arith)))
+
+  in_order : (xs : List X) → IsSorted R xs → InOrder xs
+  in_order [] up = tt
+  in_order (x ∷ xs) up = (
+    over_from x xs (λ i d p. sorted_far below (ranks_by o (λ y. y)) (x ∷ xs) up 0 (suc i) d (omega arith) (omega arith)),
+    in_order xs (λ i d p q. let h : suc i + 1 < suc (length xs) = omega arith in simp unary_clauses (simp unary_clauses at (up (suc i) d (omega arith) h))),
+  )
+
+  -- how often an entry stands in a list
+  abbrev count : List X → X → ℕ
+  count xs x = sum_by (λ y. cond (is_eq (R y x)) 1 0) xs
+
+  count_cons : (y : X) (ys : List X) (x : X) → count (y ∷ ys) x ≡ cond (is_eq (R y x)) 1 0 + count ys x
+  count_cons y ys x = sum_by-cons (λ z. cond (is_eq (R z x)) 1 0) y ys
+
+  standing : (x : X) (xs : List X) → count (x ∷ xs) x ≡ 0 → ⊥
+  standing x xs e = omega (arith, e, count_cons x xs x, ap (λ r. cond {A = ℕ} (is_eq r) 1 0) (tied_itself o x))
+
+  -- an entry below the first of a list in order does not stand in it
+  apart : (x y z : X) → below x y ≡ true → below z y ≡ false → is_eq (R z x) ≡ false
+  apart x y z p q = elim (cases_Bool (is_eq (R z x))) [
+    | inr e ↦ e
+    | inl e ↦ absurd (both_ways (below x y) (subst (λ w. below w y ≡ false) (exact z x ((Equal-is (R z x)).0 e)) q) p)
   ]
-]
 
-ranks : IsStrictWeakOrder lower
-ranks = record { one_way = asymmetric; chain = chain }
+  absent : (x y : X) (zs : List X) → below x y ≡ true → Over y zs → count zs x ≡ 0
+  absent x y [] p h = refl
+  absent x y (z ∷ zs) p h = omega (arith, count_cons z zs x, ap (λ b. cond {A = ℕ} b 1 0) (apart x y z p h.0), absent x y zs p h.1)
 
--- none of a list is below one before it
-abbrev Sorted : List (List ℕ) → Type 0
-Sorted [] = Unit {0}
-Sorted (k ∷ ks) = AllByRecursion (λ l. lower l k ≡ false) ks × Sorted ks
+  missing : (x y : X) (ys : List X) → InOrder (y ∷ ys) → below x y ≡ true → count (y ∷ ys) x ≡ 0
+  missing x y ys s p = absent x y (y ∷ ys) p (ap is_lt (tied_itself o y), s.0)
 
-all_from : (P : List ℕ → Type 0) (ks : List (List ℕ)) → ((i : ℕ) (d : List ℕ) → i < length ks → P (get_or ks i d)) → AllByRecursion P ks
-all_from P [] h = tt
-all_from P (k ∷ ks) h = (h 0 k (omega arith), all_from P ks (λ i d p. h (suc i) d (omega arith)))
+  one_in_order : (xs ys : List X) → InOrder xs → InOrder ys → ((z : X) → count xs z ≡ count ys z) → xs ≡ ys
+  one_in_order [] [] s t e = refl
+  one_in_order [] (y ∷ ys) s t e = absurd (standing y ys (sym (e y)))
+  one_in_order (x ∷ xs) [] s t e = absurd (standing x xs (e x))
+  one_in_order (x ∷ xs) (y ∷ ys) s t e =
+      let p : below x y ≡ false = elim (cases_Bool (below x y)) [ inr d ↦ d | inl d ↦ absurd (standing x xs (e x ∙ missing x y ys t d)) ] in
+      let q : below y x ≡ false = elim (cases_Bool (below y x)) [ inr d ↦ d | inl d ↦ absurd (standing y ys (sym (e y) ∙ missing y x xs s d)) ] in
+      let h : x ≡ y = one x y p q in
+      let r : xs ≡ ys = one_in_order xs ys s.1 t.1 (λ z. omega (arith, e z, count_cons x xs z, count_cons y ys z, ap (λ w. cond {A = ℕ} (is_eq (R w z)) 1 0) h)) in
+      λ i. h i ∷ r i
 
-pub sorted : (ks : List (List ℕ)) → IsSortedWithin lower ks 0 (length ks) → Sorted ks
-sorted [] up = tt
-sorted (k ∷ ks) up = (
-  all_from (λ l. lower l k ≡ false) ks (λ i d p. sorted_far lower ranks (k ∷ ks) up 0 (suc i) d (omega arith) (omega arith)),
-  sorted ks (λ i d p q. let h : suc i + 1 < suc (length ks) = omega arith in simp unary_clauses (simp unary_clauses at (up (suc i) d (omega arith) h))),
-)
-
--- how often a row stands in a list
-abbrev count : List (List ℕ) → List ℕ → ℕ
-count ks k = under (λ l. l) (λ _. 1) ks k
-
--- a row below the first of a list in order does not stand in it
-missing : (k l : List ℕ) (ls : List (List ℕ)) → Sorted (l ∷ ls) → lower k l ≡ true → count (l ∷ ls) k ≡ 0
-missing k l ls s p = absent (λ l. l) (λ _. 1) (l ∷ ls) k (p, above ls s.0)
-  where
-    above : (ms : List (List ℕ)) → AllByRecursion (λ m. lower m l ≡ false) ms → AllByRecursion (λ m. lower k m ≡ true) ms
-    above [] h = tt
-    above (m ∷ ms) h = (elim (cases_Bool (lower k m)) [ inl e ↦ e | inr e ↦ absurd (both_ways (lower k l) (chain k m l e h.0) p) ], above ms h.1)
-
-count_cons : (k : List ℕ) (ks : List (List ℕ)) (m : List ℕ) → count (k ∷ ks) m ≡ cond (same k m) 1 0 + count ks m
-count_cons k ks m = sum_by-cons (λ l. cond (same l m) 1 0) k ks
-
-standing : (k : List ℕ) (ks : List (List ℕ)) → count (k ∷ ks) k ≡ 0 → ⊥
-standing k ks e = omega (arith, e, count_cons k ks k, cond-true {A = ℕ} (same k k) 1 0 (same_refl k))
-
-pub one_sorted : (ks ls : List (List ℕ)) → Sorted ks → Sorted ls → ((m : List ℕ) → count ks m ≡ count ls m) → ks ≡ ls
-one_sorted [] [] s t e = refl
-one_sorted [] (l ∷ ls) s t e = absurd (standing l ls (sym (e l)))
-one_sorted (k ∷ ks) [] s t e = absurd (standing k ks (e k))
-one_sorted (k ∷ ks) (l ∷ ls) s t e =
-    let p : lower k l ≡ false = elim (cases_Bool (lower k l)) [ inr d ↦ d | inl d ↦ absurd (standing k ks (e k ∙ missing k l ls t d)) ] in
-    let q : lower l k ≡ false = elim (cases_Bool (lower l k)) [ inr d ↦ d | inl d ↦ absurd (standing l ls (sym (e l) ∙ missing l k ks s d)) ] in
-    let h : k ≡ l = total k l p q in
-    let r : ks ≡ ls = one_sorted ks ls s.1 t.1 (λ m. omega (arith, e m, count_cons k ks m, count_cons l ls m, ap (λ w. cond {A = ℕ} (same w m) 1 0) h)) in
-    λ i. h i ∷ r i
-
--- so two lists in order are equal where one is the other rearranged
-pub rearranged_equal : (ks ls : List (List ℕ)) → IsSortedWithin lower ks 0 (length ks) → IsSortedWithin lower ls 0 (length ls) → IsPermutation ks ls → ks ≡ ls
-rearranged_equal ks ls up over s = one_sorted ks ls (sorted ks up) (sorted ls over) (λ m. sym (sum_by-IsPermutation (λ l. cond (same l m) 1 0) ks ls s))
-
--- what the library's sort tells of rows
-pub ascends_lower : (ks : List (List ℕ)) → IsSortedWithin (λ k l. is_lt (slice_cmp nat_cmp k l)) ks 0 (length ks) → IsSortedWithin lower ks 0 (length ks)
-ascends_lower ks up i d p q = sym (lex_lower (get_or ks (i + 1) d) (get_or ks i d)) ∙ up i d p q
+  -- so two lists in order are equal where one is the other rearranged
+  pub rearranged_equal : (xs ys : List X) → IsSorted R xs → IsSorted R ys → IsPermutation xs ys → xs ≡ ys
+  rearranged_equal xs ys up over s =
+      one_in_order xs ys (in_order xs up) (in_order ys over) (λ z. sym (sum_by-IsPermutation (λ y. cond (is_eq (R y z)) 1 0) xs ys s))

@@ -2,7 +2,6 @@
 // grants. Assumes nothing of the bytes; no memory is asked for.
 #![tactic(auto)]
 
-mod numbers;
 mod order;
 mod same;
 

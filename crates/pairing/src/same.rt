@@ -6,30 +6,18 @@ ghost use Rattle.exchange.specs.Life.{Rearranged, SameBlock, SameFounding};
 ghost use Rattle.pairing.specs.Headings.{SameHeading};
 
 use crate::order::same_in_any_order;
+use arrayvec::ArrayVec;
 use blocks::{DecodedBlock, DecodedFounding, read_block, read_founding};
-use terms::Volume;
-
-// Whether the volumes are the same, one by one.
-fn same_volumes(first: &[Volume], second: &[Volume]) -> bool
-    ensures { Decides result (first.now ≡ second.now) }
-{
-    first == second
-}
+use terms::{Grant, Transaction};
 
 // Whether all but the transactions is the same.
 fn same_heading(first: &DecodedBlock, second: &DecodedBlock) -> bool
     ensures { Decides result (SameHeading (block_of first.now) (block_of second.now)) }
 {
-    if first.height() != second.height() {
-        return false;
-    }
-    if first.parent() != second.parent() {
-        return false;
-    }
-    if first.prices() != second.prices() {
-        return false;
-    }
-    same_volumes(first.volumes(), second.volumes())
+    first.height() == second.height()
+        && first.parent() == second.parent()
+        && first.prices() == second.prices()
+        && first.volumes() == second.volumes()
 }
 
 // Whether one block is the other with its transactions in another order.
@@ -39,23 +27,18 @@ fn rearranged(first: &DecodedBlock, second: &DecodedBlock) -> bool
     if !same_heading(first, second) {
         return false;
     }
-    let mut left = [[0; 9]; 1024];
-    let mut right = [[0; 9]; 1024];
-    same_in_any_order(
-        first.transactions(),
-        second.transactions(),
-        &mut left,
-        &mut right,
-    )
+    let mut left = ArrayVec::<Transaction, 1024>::try_from(first.transactions()).unwrap();
+    let mut right = ArrayVec::<Transaction, 1024>::try_from(second.transactions()).unwrap();
+    same_in_any_order(left.as_mut_slice(), right.as_mut_slice())
 }
 
 // Whether one founding is the other with its grants in another order.
 fn regranted(first: &DecodedFounding, second: &DecodedFounding) -> bool
     ensures { Decides result (IsPermutation (grants_of first.now) (grants_of second.now)) }
 {
-    let mut left = [[0; 9]; 579];
-    let mut right = [[0; 9]; 579];
-    same_in_any_order(first.grants(), second.grants(), &mut left, &mut right)
+    let mut left = ArrayVec::<Grant, 579>::try_from(first.grants()).unwrap();
+    let mut right = ArrayVec::<Grant, 579>::try_from(second.grants()).unwrap();
+    same_in_any_order(left.as_mut_slice(), right.as_mut_slice())
 }
 
 // Whether these are the same bytes, or bytes of two readable blocks that are the same but for the order of their

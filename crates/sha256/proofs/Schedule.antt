@@ -7,6 +7,10 @@ use Rattle.terms.specs.Bytes.{field}
 use Rattle.sha256.specs.Padding.{words_of}
 use Rattle.sha256.specs.Compression.{schedule, next_word, round_of, rounds_of}
 
+pub words_none : (block : List ℕ) → words_of 0 block ≡ []
+unfolding words_of
+words_none block = refl
+
 pub words_more : (n : ℕ) (block : List ℕ) → words_of (n + 1) block ≡ words_of n block ++ field 4 block (4 * n) ∷ []
 unfolding words_of
 words_more n block = ap (λ k. words_of k block) (add-one n)

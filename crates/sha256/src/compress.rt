@@ -2,7 +2,7 @@
 // hash value and a block of 64 bytes. Assumes nothing beyond each function's `requires`.
 ghost use Rattle.std.specs.Prelude.{◌≡◌, ℕ, ◌+◌, ◌<◌, ◌≤◌, List, length, take, slice_index};
 ghost use Rattle.sha256.specs.Functions.{ch, maj, big_sigma0, big_sigma1, small_sigma0, small_sigma1, constant_at};
-ghost use Rattle.terms.specs.Bytes.{field};
+ghost use Rattle.terms.specs.Bytes.{bytes_of};
 ghost use Rattle.sha256.specs.Padding.{words_of, initial};
 ghost use Rattle.sha256.specs.Compression.{schedule, round_of, rounds_of, sum_of, compress_of};
 ghost use Rattle.sha256.specs.Digest.{digest_of};
@@ -112,14 +112,11 @@ fn eight(s: State, w: &[u32; 64], t: usize) -> State
     ensures { (start : State) (all : List ℕ) → take (t + 8) w.now ≡ take (t + 8) all
         → s ≡ rounds_of t all start → result ≡ rounds_of (t + 8) all start }
 {
-    let s1 = step(s, w, t);
-    let s2 = step(s1, w, t + 1);
-    let s3 = step(s2, w, t + 2);
-    let s4 = step(s3, w, t + 3);
-    let s5 = step(s4, w, t + 4);
-    let s6 = step(s5, w, t + 5);
-    let s7 = step(s6, w, t + 6);
-    step(s7, w, t + 7)
+    let mut s = s;
+    for i in 0..8 {
+        s = step(s, w, t + i);
+    }
+    s
 }
 
 // Eight words more of a message schedule of n + 16 words.
@@ -137,30 +134,21 @@ fn extend(w: &mut [u32; 64], n: usize)
     }
 }
 
-// The word in the four bytes at a place.
-fn word(bytes: &[u8], at: usize) -> u32
-    requires { at + 4 ≤ length bytes.now }
-    ensures { result ≡ field 4 bytes.now at }
-{
-    u32::from_be_bytes([bytes[at], bytes[at + 1], bytes[at + 2], bytes[at + 3]])
-}
-
 // The words of a block, with room for the rest of the message schedule.
-fn load(block: &[u8]) -> [u32; 64]
-    requires { length block.now ≡ 64 }
+fn load(block: &[u8; 64]) -> [u32; 64]
     ensures { take 16 result ≡ words_of 16 block.now }
 {
+    let (quads, _) = block.as_chunks::<4>();
     let mut w = [0; 64];
-    for t in 0..16 {
-        w[t] = word(block, 4 * t);
+    for (t, quad) in quads.iter().enumerate() {
+        w[t] = u32::from_be_bytes(*quad);
     }
     w
 }
 
 // The 64 rounds over a block. The message schedule is written as they go, eight words at a time: so the processor can work
 // at both at once.
-fn rounds(start: State, block: &[u8]) -> State
-    requires { length block.now ≡ 64 }
+fn rounds(start: State, block: &[u8; 64]) -> State
     ensures { result ≡ rounds_of 64 (schedule 48 (words_of 16 block.now)) start }
 {
     let mut w = load(block);
@@ -207,8 +195,7 @@ impl State {
     }
 
     // The hash value after one block more.
-    pub(crate) fn compress(self, block: &[u8]) -> State
-        requires { length block.now ≡ 64 }
+    pub(crate) fn compress(self, block: &[u8; 64]) -> State
         ensures { result ≡ compress_of self block.now }
     {
         add(self, rounds(self, block))
@@ -221,10 +208,11 @@ impl State {
         let words = [
             self.a, self.b, self.c, self.d, self.e, self.f, self.g, self.h,
         ];
-        let mut bytes = [0; 32];
-        for i in 0..8 {
-            bytes[4 * i..4 * i + 4].copy_from_slice(&words[i].to_be_bytes());
-        }
-        bytes
+        let quads = words.map(
+            |word: u32| -> [u8; 4]
+                ensures { result ≡ bytes_of 4 word }
+            { word.to_be_bytes() },
+        );
+        *quads.as_flattened().first_chunk().unwrap()
     }
 }

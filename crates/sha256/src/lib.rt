@@ -4,8 +4,9 @@
 
 ghost use Rattle.std.specs.Prelude.{◌≡◌, ◌<◌, ◌≤◌, length, MatchResult};
 ghost use Rattle.sha256.specs.Digest.{sha256};
-ghost use Rattle.sha256.specs.Hex.{hex_digit, hex_of};
+ghost use Rattle.sha256.specs.Hex.{hex_of};
 
+use hex::encode_to_slice;
 use terms::{Cause, Fault};
 
 mod compress;
@@ -30,22 +31,11 @@ pub fn digest(bytes: &[u8]) -> Result<[u8; 32], Fault>
     Ok(hasher.finish())
 }
 
-// The character of a digit below 16.
-fn hex_digit(n: u8) -> u8
-    requires { n < 16 }
-    ensures { result ≡ hex_digit n }
-{
-    if n < 10 { b'0' + n } else { b'a' + (n - 10) }
-}
-
 // A digest in lower-case hexadecimal: two characters a byte, the high digit first.
 pub fn hex(digest: &[u8; 32]) -> [u8; 64]
     ensures { result ≡ hex_of digest.now }
 {
     let mut text = [0; 64];
-    for i in 0..32 {
-        text[2 * i] = hex_digit(digest[i] / 16);
-        text[2 * i + 1] = hex_digit(digest[i] % 16);
-    }
+    encode_to_slice(digest, &mut text).unwrap();
     text
 }

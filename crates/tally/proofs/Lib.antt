@@ -1,5 +1,4 @@
 pub mod Places
-pub mod Orders
 pub mod Merge
 pub mod Finds
 pub mod Nets

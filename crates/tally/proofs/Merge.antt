@@ -1,18 +1,23 @@
 -- Effects added up, one by one. Assumes nothing.
 use Rattle.std.proofs.Common.{◌≡◌, ℕ, ◌+◌, ◌-◌, ◌^◌, ◌<◌, ◌≤◌, Bool, true, false, cond, List, [], ◌∷◌, ◌++◌, length, get_or, take, set, sym, refl, ap, ◌∙◌, subst, inl, inr, arith}
-use Rattle.std.specs.List.{AllByRecursion}
-use Rattle.std.proofs.lemmas.List.{take_more, take_more_set, get_or_default}
+use Rattle.std.specs.List.{AllByRecursion, refill}
+use Rattle.std.proofs.lemmas.List.{take_all, take_more, take_more_set, get_or_default, set-get_or, drop_all, length-set, append-nil}
 use Rattle.std.proofs.lemmas.List.Sums.{sum_by_push, sum_by-cons}
 use Rattle.std.proofs.lemmas.Bool.{cases_Bool, both_ways, cond-true, cond-false}
 use Rattle.std.proofs.ByRecursion.{All-weaker}
 use Rattle.std.specs.Cmp.{IsStrictWeakOrder}
-use Rattle.std.specs.List.Sorted.{IsSortedWithin}
-use Rattle.std.proofs.lemmas.List.Sorted.{sorted_far}
+use Rattle.std.specs.List.Sorted.{IsSortedWithin, IsPermutation}
+use Rattle.std.proofs.lemmas.List.Sorted.{sorted_far, sum_by-IsPermutation}
 use Rattle.terms.specs.Order.{lower, same, Rising, under}
 use Rattle.terms.proofs.Order.{transitive, total, asymmetric}
 use Rattle.tally.specs.declared.effects.Effect.{Effect}
 use Rattle.tally.specs.declared.effects.Net.{Net}
 use Rattle.tally.specs.Tally.{net_of, with_more, added, Tallied, Small, Ahead}
+
+-- a list of the same length, written through a loan
+pub lent_back : {X : Type 0} (to ys : List X) → length ys ≡ length to → refill (length to) to ys ≡ ys
+lent_back to ys n =
+    ap (λ zs. take (length to) (ys ++ zs)) (drop_all (length ys) to (omega arith)) ∙ ap (take (length to)) (append-nil ys) ∙ take_all (length to) ys (omega arith)
 
 module _ {K : Type 0} (w : K → List ℕ) where
   abbrev wn : Net K → List ℕ
@@ -29,33 +34,53 @@ module _ {K : Type 0} (w : K → List ℕ) where
       ap (λ t. y ∷ t) (added_last (z ∷ zs) x e)
       ∙ elim (lower (wn x) (we e)) as (λ t. (y ∷ cond t (((z ∷ zs) ++ x ∷ []) ++ net_of e ∷ []) ((z ∷ zs) ++ with_more x e ∷ [])) ≡ cond t (((y ∷ (z ∷ zs)) ++ x ∷ []) ++ net_of e ∷ []) ((y ∷ (z ∷ zs)) ++ with_more x e ∷ [])) [ true ↦ refl | false ↦ refl ]
 
-  before_last : (to : List (Net K)) (n : ℕ) (x : Net K) → 0 < n → n ≤ length to → x ≡ get_or to (n - 1) x → take n to ≡ take (n - 1) to ++ x ∷ []
-  before_last to n x p l e =
-      let m : n - 1 + 1 ≡ n = omega arith in
-      ap (λ k. take k to) (sym m) ∙ take_more to (n - 1) x (omega arith) ∙ ap (λ z. take (n - 1) to ++ z ∷ []) (sym e)
+  before_last : (to : List (Net K)) (x : Net K) → 0 < length to → x ≡ get_or to (length to - 1) x → to ≡ take (length to - 1) to ++ x ∷ []
+  before_last to x p e =
+      let m : length to ≤ length to - 1 + 1 = omega arith in
+      sym (take_all (length to - 1 + 1) to m) ∙ take_more to (length to - 1) x (omega arith) ∙ ap (λ z. take (length to - 1) to ++ z ∷ []) (sym e)
 
-  pub put_merged : (to : List (Net K)) (n : ℕ) (x : Net K) (e : Effect K) → 0 < n → n ≤ length to → x ≡ get_or to (n - 1) x
-      → lower (wn x) (we e) ≡ false → take n (set to (n - 1) (with_more x e)) ≡ added w (take n to) e
-  put_merged to n x e p l is low =
-      let m : n - 1 + 1 ≡ n = omega arith in
-      ap (λ k. take k (set to (n - 1) (with_more x e))) (sym m)
-      ∙ take_more_set to (n - 1) (with_more x e) (omega arith)
-      ∙ sym (cond-false (lower (wn x) (we e)) ((take (n - 1) to ++ x ∷ []) ++ net_of e ∷ []) (take (n - 1) to ++ with_more x e ∷ []) low)
-      ∙ sym (added_last (take (n - 1) to) x e)
-      ∙ ap (λ xs. added w xs e) (sym (before_last to n x p l is))
+  -- more for the last entry
+  pub put_merged : (to : List (Net K)) (x : Net K) (e : Effect K) → 0 < length to → x ≡ get_or to (length to - 1) x
+      → lower (wn x) (we e) ≡ false → set to (length to - 1) (with_more x e) ≡ added w to e
+  put_merged to x e p is low =
+      let m : length (set to (length to - 1) (with_more x e)) ≤ length to - 1 + 1 = simp length-set (omega arith) in
+      sym (take_all (length to - 1 + 1) (set to (length to - 1) (with_more x e)) m)
+      ∙ take_more_set to (length to - 1) (with_more x e) (omega arith)
+      ∙ sym (cond-false (lower (wn x) (we e)) ((take (length to - 1) to ++ x ∷ []) ++ net_of e ∷ []) (take (length to - 1) to ++ with_more x e ∷ []) low)
+      ∙ sym (added_last (take (length to - 1) to) x e)
+      ∙ ap (λ xs. added w xs e) (sym (before_last to x p is))
 
-  pub put_new : (to : List (Net K)) (n : ℕ) (x : Net K) (e : Effect K) → 0 < n → n < length to → x ≡ get_or to (n - 1) x
-      → lower (wn x) (we e) ≡ true → take (n + 1) (set to n (net_of e)) ≡ added w (take n to) e
-  put_new to n x e p l is low =
-      let b = before_last to n x p (omega arith) is in
-      take_more_set to n (net_of e) l
-      ∙ ap (λ xs. xs ++ net_of e ∷ []) b
-      ∙ sym (cond-true (lower (wn x) (we e)) ((take (n - 1) to ++ x ∷ []) ++ net_of e ∷ []) (take (n - 1) to ++ with_more x e ∷ []) low)
-      ∙ sym (added_last (take (n - 1) to) x e)
+  pub put_first : (to : List (Net K)) (e : Effect K) → length to ≡ 0 → to ++ net_of e ∷ [] ≡ added w to e
+  put_first [] e z = refl
+  put_first (x ∷ xs) e z = absurd (omega arith)
+
+  -- an entry after the last one
+  pub put_new : (to : List (Net K)) (x : Net K) (e : Effect K) → 0 < length to → x ≡ get_or to (length to - 1) x
+      → lower (wn x) (we e) ≡ true → to ++ net_of e ∷ [] ≡ added w to e
+  put_new to x e p is low =
+      let b = before_last to x p is in
+      ap (λ xs. xs ++ net_of e ∷ []) b
+      ∙ sym (cond-true (lower (wn x) (we e)) ((take (length to - 1) to ++ x ∷ []) ++ net_of e ∷ []) (take (length to - 1) to ++ with_more x e ∷ []) low)
+      ∙ sym (added_last (take (length to - 1) to) x e)
       ∙ ap (λ xs. added w xs e) (sym b)
 
-  pub put_first : (to : List (Net K)) (n : ℕ) (e : Effect K) → n ≡ 0 → n < length to → take (n + 1) (set to n (net_of e)) ≡ added w (take n to) e
-  put_first to n e z l = take_more_set to n (net_of e) l ∙ (subst (λ k. take k to ++ net_of e ∷ [] ≡ added w (take k to) e) (sym z) refl)
+  -- what is written through a loan of the entries
+
+  pub lent_merged : (to lent : List (Net K)) (x : Net K) (e : Effect K) → lent ≡ to → 0 < length to → x ≡ get_or to (length to - 1) x
+      → lower (wn x) (we e) ≡ false → refill (length to) to (set lent (length lent - 1) (with_more x e)) ≡ added w to e
+  lent_merged to lent x e l p is low =
+      subst (λ z. refill (length to) to (set z (length z - 1) (with_more x e)) ≡ added w to e) (sym l)
+      (lent_back to (set to (length to - 1) (with_more x e)) (simp length-set) ∙ put_merged to x e p is low)
+
+  pub lent_none : (to lent : List (Net K)) (e : Effect K) → lent ≡ to → length to ≡ 0 → refill (length to) to lent ++ net_of e ∷ [] ≡ added w to e
+  lent_none to lent e l z = ap (λ xs. xs ++ net_of e ∷ []) (lent_back to lent (ap length l) ∙ l) ∙ put_first to e z
+
+  pub lent_new : (to lent : List (Net K)) (x : Net K) (e : Effect K) → lent ≡ to → 0 < length to → x ≡ get_or to (length to - 1) x
+      → lower (wn x) (we e) ≡ true → refill (length to) to (set lent (length lent - 1) x) ++ net_of e ∷ [] ≡ added w to e
+  lent_new to lent x e l p is low =
+      let same : set to (length to - 1) x ≡ to = ap (set to (length to - 1)) is ∙ set-get_or to (length to - 1) x in
+      subst (λ z. refill (length to) to (set z (length z - 1) x) ++ net_of e ∷ [] ≡ added w to e) (sym l)
+      (ap (λ xs. xs ++ net_of e ∷ []) (lent_back to (set to (length to - 1) x) (simp length-set) ∙ same) ∙ put_new to x e p is low)
 
   -- what holds of each entry
   pub all_added : (P Q : Net K → Type 0) (ns : List (Net K)) (e : Effect K) → AllByRecursion P ns
@@ -151,6 +176,14 @@ module _ {K : Type 0} (w : K → List ℕ) where
 
       first : Ahead w es (i + 1) (net_of e)
       first = record { plus = omega arith; minus = omega arith; low = λ j d p q. subst (λ z. lower (we (get_or es j d)) (we z) ≡ false) (get_or_default es i d e l ∙ sym is) (sorted_far _ ranks_words es up i j d (omega arith) q) }
+
+  -- the sums do not know in which order the effects stand
+  pub tallied_in_order : (es fs : List (Effect K)) (ns : List (Net K)) → IsPermutation es fs → Tallied w fs ns → Tallied w es ns
+  tallied_in_order es fs ns s t = record {
+    rising = t.rising;
+    plus = λ k. t.plus k ∙ sum_by-IsPermutation (λ e. cond (same (we e) k) e.plus 0) es fs s;
+    minus = λ k. t.minus k ∙ sum_by-IsPermutation (λ e. cond (same (we e) k) e.minus 0) es fs s;
+  }
 
   pub small_all : (es : List (Effect K)) (i : ℕ) (ns : List (Net K)) → i < 2 ^ 32 → AllByRecursion (Ahead w es i) ns → AllByRecursion Small ns
   small_all es i ns l a = All-weaker _ _ (λ x h. (omega (arith, h.plus), omega (arith, h.minus))) ns a

@@ -1,4 +1,2 @@
 pub mod Least
-pub mod Order
 pub mod Tally
-pub mod Total

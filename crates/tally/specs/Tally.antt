@@ -1,5 +1,5 @@
 -- Effects added up under their keys. Assumes nothing.
-use Rattle.std.specs.Prelude.{◌≡◌, ℕ, ◌+◌, ◌*◌, ◌^◌, ◌<◌, ◌≤◌, Bool, false, cond, ◌&&◌, List, [], ◌∷◌, length, nat_le, slice_index_or}
+use Rattle.std.specs.Prelude.{◌≡◌, ℕ, ◌+◌, ◌*◌, ◌^◌, ◌<◌, ◌≤◌, false, cond, List, [], ◌∷◌, length, slice_index_or}
 use Rattle.terms.specs.Order.{lower, Rising, under}
 use Rattle.tally.specs.declared.effects.Effect.{Effect}
 use Rattle.tally.specs.declared.effects.Net.{Net}
@@ -20,10 +20,6 @@ added w (x ∷ (y ∷ ys)) e = x ∷ added w (y ∷ ys) e
 -- far from the end of 128 bits
 abbrev pub Small : {K : Type 0} → Net K → Type 0
 Small x = (x.plus < 2 ^ 127) × (x.minus < 2 ^ 127)
-
--- there is room for what so many entries give, two effects each, in lists of these lengths
-abbrev pub roomy : (entries effects nets : ℕ) → Bool
-roomy n e m = nat_le n 1024 && (nat_le 2048 e && nat_le 2048 m)
 
 -- The entries ns have rising keys, and under each key the sums of the effects es. w tells the numbers of a key.
 pub record Tallied {K : Type 0} (w : K → List ℕ) (es : List (Effect K)) (ns : List (Net K)) : Type 0 where

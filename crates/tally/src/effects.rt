@@ -1,21 +1,20 @@
 // Effects under keys, gathered from a list, sorted and added up: what comes in and what goes out under each key.
 // Assumes nothing; at most MAX_ITEMS entries are gathered, and no memory is asked for.
-ghost use Rattle.std.specs.Prelude.{◌≡◌, ℕ, ◌+◌, ◌*◌, ◌^◌, ◌<◌, ◌≤◌, Bool, true, false, List, ◌++◌, length, take, MatchOption};
+ghost use Rattle.std.specs.Prelude.{◌≡◌, ℕ, ◌+◌, ◌*◌, ◌^◌, ◌<◌, ◌≤◌, List, [], ◌++◌, length, MatchResult};
 ghost use Rattle.std.specs.Option.{option_to_list};
 ghost use Rattle.std.specs.List.{flat_map, AllByRecursion};
 ghost use Rattle.std.specs.List.Sorted.{IsSortedWithin};
+ghost use Rattle.arrayvec.specs.ArrayVec.{array_vec_len};
 ghost use Rattle.terms.specs.Order.{lower, Rising, under};
-ghost use Rattle.tally.specs.Order.{order};
-ghost use Rattle.tally.specs.Tally.{added, roomy, Tallied, Small};
+ghost use Rattle.terms.specs.Causes.{fault_of};
+ghost use Rattle.terms.specs.declared.causes.Cause.TheVariants.{TooManyTransactions};
+ghost use Rattle.tally.specs.Tally.{added, Tallied, Small};
 ghost use Rattle.tally.specs.declared.effects.Effect.{Effect};
-ghost use Rattle.std.specs.Ordering.{on, eq_by_cmp, as_partial_cmp};
-ghost use Rattle.std.specs.Cmp.{partial_equiv_from_equiv, eq_by_cmp_equiv, on_total, partial_order_from_total};
-ghost use Rattle.std.proofs.Common.{refl};
-ghost use Rattle.tally.specs.Total.{order_total};
 
 use crate::rules::{Place, Placed};
-use ordered::SortKey;
-use std::cmp::Ordering;
+use arrayvec::ArrayVec;
+use ordered::{Keyed, SortKey, search};
+use terms::{Cause, Fault};
 
 // As many entries as are gathered, and the effects that they may have: two each.
 pub const MAX_ITEMS: usize = 1024;
@@ -23,15 +22,39 @@ pub const MAX_ITEMS: usize = 1024;
 pub const MAX_EFFECTS: usize = 2048;
 
 // What comes in and goes out under a key by one entry.
-#[derive(Clone, Copy)]
+#[derive(Clone, Copy, Default)]
 pub struct Effect<K> {
     pub key: K,
     pub plus: u64,
     pub minus: u64,
 }
 
+impl<K> Effect<K> {
+    // So much comes in.
+    pub fn comes(key: K, amount: u64) -> Self
+        ensures { result ≡ record { key = key; plus = amount; minus = 0 } }
+    {
+        Effect {
+            key,
+            plus: amount,
+            minus: 0,
+        }
+    }
+
+    // So much goes out.
+    pub fn goes(key: K, amount: u64) -> Self
+        ensures { result ≡ record { key = key; plus = 0; minus = amount } }
+    {
+        Effect {
+            key,
+            plus: 0,
+            minus: amount,
+        }
+    }
+}
+
 // What comes in and goes out under a key by all of them.
-#[derive(Clone, Copy)]
+#[derive(Clone, Copy, Default)]
 pub struct Net<K> {
     pub key: K,
     pub plus: u128,
@@ -49,6 +72,17 @@ impl<K: Placed> Placed for Net<K> {
     }
 }
 
+// And a list of nets is searched by their keys.
+impl<K: SortKey> Keyed for Net<K> {
+    type Id = K;
+
+    ghost key = { λ n. n.key };
+
+    fn key(&self) -> K {
+        self.key
+    }
+}
+
 // What an entry of a list gives: at most two effects.
 pub trait Gather<X, K> {
     ghost gives: { Self → X → List (Effect K) };
@@ -57,185 +91,116 @@ pub trait Gather<X, K> {
         ensures { option_to_list result.0 ++ option_to_list result.1 ≡ gives self.now x };
 }
 
-fn compare<K: SortKey>(a: K, b: K) -> Ordering
-    ensures { result ≡ order (K.SortKey.rank a) (K.SortKey.rank b) }
+// Writes the effects of an entry after those that are there.
+fn push<K: SortKey>(effects: &mut ArrayVec<Effect<K>, MAX_EFFECTS>, e: Option<Effect<K>>)
+    requires { array_vec_len effects.old < 2048 }
+    ensures items { effects.new.items ≡ effects.old.items ++ option_to_list e }
+    ensures most { array_vec_len effects.new ≤ array_vec_len effects.old + 1 }
 {
-    if a.precedes(b) {
-        Ordering::Less
-    } else if b.precedes(a) {
-        Ordering::Greater
-    } else {
-        Ordering::Equal
-    }
-}
-
-// Effects go by their keys.
-impl<K: SortKey> PartialEq for Effect<K> {
-    ghost eq = { eq_by_cmp (on (λ e. K.SortKey.rank e.key) order) };
-
-    ghost laws = { partial_equiv_from_equiv (eq_by_cmp_equiv (on_total (λ e. K.SortKey.rank e.key) order_total)) };
-
-    fn eq(&self, other: &Effect<K>) -> bool {
-        compare(self.key, other.key).is_eq()
-    }
-}
-
-impl<K: SortKey> Eq for Effect<K> {
-    ghost laws = { eq_by_cmp_equiv (on_total (λ e. K.SortKey.rank e.key) order_total) };
-}
-
-impl<K: SortKey> PartialOrd for Effect<K> {
-    ghost partial_cmp = { as_partial_cmp (on (λ e. K.SortKey.rank e.key) order) };
-
-    ghost laws = { partial_order_from_total (on_total (λ e. K.SortKey.rank e.key) order_total) };
-
-    fn partial_cmp(&self, other: &Effect<K>) -> Option<Ordering> {
-        Some(compare(self.key, other.key))
-    }
-}
-
-impl<K: SortKey> Ord for Effect<K> {
-    ghost cmp = { on (λ e. K.SortKey.rank e.key) order };
-
-    ghost total = { on_total (λ e. K.SortKey.rank e.key) order_total };
-
-    ghost matches_partial_cmp = { λ _ _. refl };
-
-    ghost matches_eq = { λ _ _. refl };
-
-    fn cmp(&self, other: &Effect<K>) -> Ordering {
-        compare(self.key, other.key)
-    }
-}
-
-// Writes what there is to write at `n`, and tells the place after it.
-fn push<K: SortKey>(out: &mut [Effect<K>], n: usize, e: Option<Effect<K>>) -> usize
-    requires { n < length out.old }
-    ensures items { take result out.new ≡ take n out.old ++ option_to_list e }
-    ensures most { result ≤ n + 1 }
-{
-    match e {
-        Some(x) => {
-            out[n] = x;
-            n + 1
-        }
-        None => n,
+    if let Some(x) = e {
+        effects.push(x);
     }
 }
 
 // All effects of the entries, in turn.
-fn collect<X: Copy, K: SortKey, G: Gather<X, K>>(from: &G, xs: &[X], out: &mut [Effect<K>]) -> usize
-    requires { 2 * length xs.now ≤ length out.old }
-    ensures items { take result out.new ≡ flat_map (G.Gather.gives from.now) xs.now }
-    ensures most { result ≤ 2 * length xs.now }
+fn collect<X: Copy, K: SortKey, G: Gather<X, K>>(
+    from: &G,
+    xs: &[X],
+    effects: &mut ArrayVec<Effect<K>, MAX_EFFECTS>,
+)
+    requires few { length xs.now ≤ 1024 }
+    requires none { effects.old.items ≡ [] }
+    ensures { effects.new.items ≡ flat_map (G.Gather.gives from.now) xs.now }
 {
-    let mut n: usize = 0;
     for x in xs {
         let (a, b) = from.parts(*x);
-        n = push(out, n, a);
-        n = push(out, n, b);
+        push(effects, a);
+        push(effects, b);
     }
-    n
 }
 
-// One effect more, which is not below the last of the first `n` entries.
-fn add<K: SortKey>(to: &mut [Net<K>], n: usize, e: Effect<K>) -> usize
-    requires room { n < length to.old }
-    requires small { AllByRecursion Small (take n to.old) }
-    ensures nets { take result to.new ≡ added K.SortKey.rank (take n to.old) e }
-    ensures most { result ≤ n + 1 }
+// One effect more, which is not below the last net.
+fn add<K: SortKey>(nets: &mut ArrayVec<Net<K>, MAX_EFFECTS>, e: Effect<K>)
+    requires room { array_vec_len nets.old < 2048 }
+    requires small { AllByRecursion Small nets.old.items }
+    ensures nets { nets.new.items ≡ added K.SortKey.rank nets.old.items e }
+    ensures most { array_vec_len nets.new ≤ array_vec_len nets.old + 1 }
     ensures fits { (e.plus < 2 ^ 64) × (e.minus < 2 ^ 64) }
 {
-    if n > 0 {
-        let last = to[n - 1];
-        if !last.key.precedes(e.key) {
-            to[n - 1] = Net {
-                key: last.key,
-                plus: last.plus + e.plus as u128,
-                minus: last.minus + e.minus as u128,
-            };
-            return n;
-        }
+    if let Some(last) = nets.last_mut()
+        && last.key >= e.key
+    {
+        last.plus += e.plus as u128;
+        last.minus += e.minus as u128;
+        return;
     }
-    to[n] = Net {
+    nets.push(Net {
         key: e.key,
         plus: e.plus as u128,
         minus: e.minus as u128,
-    };
-    n + 1
+    });
 }
 
 // Adds up sorted effects.
-fn merge<K: SortKey>(from: &[Effect<K>], to: &mut [Net<K>]) -> usize
-    requires room { length from.now ≤ length to.old }
-    requires few { length from.now < 2 ^ 32 }
-    requires sorted { IsSortedWithin (λ x y. lower (K.SortKey.rank x.key) (K.SortKey.rank y.key)) from.now 0 (length from.now) }
-    ensures within { result ≤ length from.now }
-    ensures tallied { Tallied K.SortKey.rank from.now (take result to.new) }
-    ensures small { AllByRecursion Small (take result to.new) }
+fn merge<K: SortKey>(effects: &[Effect<K>], nets: &mut ArrayVec<Net<K>, MAX_EFFECTS>)
+    requires room { length effects.now ≤ 2048 }
+    requires none { nets.old.items ≡ [] }
+    requires sorted { IsSortedWithin (λ x y. lower (K.SortKey.rank x.key) (K.SortKey.rank y.key)) effects.now 0 (length effects.now) }
+    ensures tallied { Tallied K.SortKey.rank effects.now nets.new.items }
+    ensures small { AllByRecursion Small nets.new.items }
 {
-    let mut n: usize = 0;
-    for e in from {
-        n = add(to, n, *e);
+    for e in effects {
+        add(nets, *e);
     }
-    n
 }
 
-// Sorts effects and adds them up.
-fn tally<K: SortKey>(from: &mut [Effect<K>], to: &mut [Net<K>]) -> usize
-    requires room { length from.old ≤ length to.old }
-    requires few { length from.old < 2 ^ 32 }
-    ensures within { result ≤ length from.old }
-    ensures tallied { Tallied K.SortKey.rank from.old (take result to.new) }
-    ensures small { AllByRecursion Small (take result to.new) }
-{
-    from.sort_unstable();
-    merge(from, to)
+// Memory to add up in, for as many entries as are gathered at most.
+#[derive(Drop)]
+pub struct Ledger<K> {
+    effects: ArrayVec<Effect<K>, MAX_EFFECTS>,
+    nets: ArrayVec<Net<K>, MAX_EFFECTS>,
 }
 
-// The sums of what the entries give under each key: the first so many nets, by rising keys. None where there are more
-// than MAX_ITEMS entries or a slice has less than MAX_EFFECTS places, and only then. `effects` is memory to work in.
-pub fn sums<X: Copy, K: SortKey, G: Gather<X, K>>(
-    from: &G,
-    xs: &[X],
-    effects: &mut [Effect<K>],
-    nets: &mut [Net<K>],
-) -> Option<usize>
-    ensures { MatchOption result (roomy (length xs.now) (length effects.old) (length nets.old) ≡ false) (λ n. (roomy (length xs.now) (length effects.old) (length nets.old) ≡ true) × (n ≤ 2048) × Tallied K.SortKey.rank (flat_map (G.Gather.gives from.now) xs.now) (take n nets.new) × AllByRecursion Small (take n nets.new)) }
-{
-    if xs.len() > MAX_ITEMS || effects.len() < MAX_EFFECTS || nets.len() < MAX_EFFECTS {
-        return None;
+impl<K: SortKey + Default> Ledger<K> {
+    // A ledger in which nothing stands.
+    pub fn new() -> Self
+        ensures { (result.effects.items ≡ []) × (result.nets.items ≡ []) }
+    {
+        Ledger {
+            effects: ArrayVec::new(),
+            nets: ArrayVec::new(),
+        }
     }
-    let n = collect(from, xs, effects);
-    Some(tally(&mut effects[0..n], nets))
+
+    // The sums of what the entries give under each key, by rising keys, whatever stood in the ledger before.
+    // Of more than MAX_ITEMS entries it refuses with fault 6.
+    pub fn sums<X: Copy, G: Gather<X, K>>(&mut self, from: &G, xs: &[X]) -> Result<&[Net<K>], Fault>
+        ensures { MatchResult result (λ ns. (length xs.now ≤ 1024) × Tallied K.SortKey.rank (flat_map (G.Gather.gives from.now) xs.now) ns.now × AllByRecursion Small ns.now) (λ f. (1024 < length xs.now) × (f ≡ fault_of TooManyTransactions)) }
+    {
+        if xs.len() > MAX_ITEMS {
+            return Err(Cause::TooManyTransactions.into());
+        }
+        self.effects.clear();
+        self.nets.clear();
+        collect(from, xs, &mut self.effects);
+        self.effects.sort_unstable_by_key(|e| e.key);
+        merge(&self.effects, &mut self.nets);
+        Ok(self.nets.as_slice())
+    }
 }
 
-// The net under a key, or an empty one, where the keys rise. By halving.
+// The net under a key, or an empty one, where the keys rise.
 pub fn look_up<K: SortKey>(nets: &[Net<K>], key: K) -> Net<K>
     ensures plus { Rising (λ n. K.SortKey.rank n.key) nets.now → result.plus ≡ under (λ n. K.SortKey.rank n.key) (λ n. n.plus) nets.now (K.SortKey.rank key) }
     ensures minus { Rising (λ n. K.SortKey.rank n.key) nets.now → result.minus ≡ under (λ n. K.SortKey.rank n.key) (λ n. n.minus) nets.now (K.SortKey.rank key) }
     ensures small { AllByRecursion Small nets.now → Small result }
 {
-    let mut low = 0;
-    let mut high = nets.len();
-    while low < high {
-        let mid = low + (high - low) / 2;
-        let x = nets[mid];
-        if x.key.precedes(key) {
-            low = mid + 1;
-        } else {
-            high = mid;
-        }
-    }
-    if low < nets.len() {
-        let x = nets[low];
-        if !key.precedes(x.key) {
-            return x;
-        }
-    }
-    Net {
-        key,
-        plus: 0,
-        minus: 0,
+    match search(nets, key) {
+        Ok(i) => nets[i],
+        Err(_) => Net {
+            key,
+            plus: 0,
+            minus: 0,
+        },
     }
 }

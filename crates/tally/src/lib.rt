@@ -5,5 +5,5 @@
 pub mod effects;
 pub mod rules;
 
-pub use effects::{Effect, Gather, MAX_EFFECTS, MAX_ITEMS, Net, look_up, sums};
+pub use effects::{Effect, Gather, Ledger, MAX_EFFECTS, MAX_ITEMS, Net, look_up};
 pub use rules::{Place, Placed, Rule, report};

@@ -1,12 +1,13 @@
 // Rules that an entry of a list may break, and the least place at which one is broken. Assumes nothing.
 ghost use Rattle.std.specs.Prelude.{◌≡◌, ℕ, Bool};
+ghost use Rattle.ordered.specs.Orders.{in_turn_is};
 ghost use Rattle.tally.specs.Least.{Broken, Told, spot, lesser_of, LeastPlace};
 
 use ordered::SortKey;
 use terms::{Fault, Transaction, Volume};
 
 // The two numbers by which a fault names a place.
-#[derive(Clone, Copy)]
+#[derive(Clone, Copy, PartialEq, Eq, PartialOrd, Ord, Default)]
 pub struct Place {
     pub first: u64,
     pub second: u64,
@@ -16,9 +17,7 @@ pub struct Place {
 impl SortKey for Place {
     ghost rank = { spot };
 
-    fn precedes(self, other: Place) -> bool {
-        self.first < other.first || (self.first == other.first && self.second < other.second)
-    }
+    ghost follows = { λ p q. in_turn_is (spot p) (spot q) };
 }
 
 // What has a place.
@@ -85,7 +84,7 @@ fn lesser(best: Option<Place>, p: Place) -> Option<Place>
 {
     match best {
         None => Some(p),
-        Some(b) => { if p.precedes(b) { Some(p) } else { Some(b) } }
+        Some(b) => { if p < b { Some(p) } else { Some(b) } }
     }
 }
 

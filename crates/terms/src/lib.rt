@@ -46,7 +46,7 @@ pub struct Volume {
 }
 
 // What a transaction asks for.
-#[derive(Clone, Copy, PartialEq, Eq, Debug)]
+#[derive(Clone, Copy, PartialEq, Eq, PartialOrd, Ord, Debug)]
 pub enum Action {
     // opens an account
     Create {
@@ -82,7 +82,7 @@ impl Default for Action {
 }
 
 // A transaction: the account that it comes from, that account's sequence number, and what it asks for.
-#[derive(Clone, Copy, PartialEq, Eq, Debug, Default)]
+#[derive(Clone, Copy, PartialEq, Eq, PartialOrd, Ord, Debug, Default)]
 pub struct Transaction {
     pub source: u32,
     pub sequence: u32,
@@ -90,7 +90,7 @@ pub struct Transaction {
 }
 
 // What a founding gives to one account.
-#[derive(Clone, Copy, PartialEq, Eq, Debug, Default)]
+#[derive(Clone, Copy, PartialEq, Eq, PartialOrd, Ord, Debug, Default)]
 pub struct Grant {
     pub account: u32,
     pub balances: [u64; 8],

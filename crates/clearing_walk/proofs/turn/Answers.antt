@@ -2,7 +2,7 @@ use Rattle.std.proofs.Common.{◌≡◌, ℕ, ◌*◌, true, is_err, Some, None,
 use Rattle.std.proofs.lemmas.Bool.{eqb-true, and_parts, false≢true}
 use Rattle.terms.specs.declared.Fault.{Fault}
 use Rattle.clearing_walk.specs.declared.Fill.{Fill}
-use Rattle.clearing_walk.specs.declared.Rates.{Rates}
+use Rattle.clearing_walk.specs.declared.rates.Rates.{Rates}
 use Rattle.clearing_walk.specs.Walk.{Bounded}
 use Rattle.clearing_walk.proofs.Bounds.{no_room}
 use Rattle.clearing_walk.proofs.Next.{next_key}
@@ -69,7 +69,7 @@ returns-in_ok-fill-in-Some g c =
     let some = next.1 in
     let d = div-le_self (c.in_ok-fill-in-Some.fill.sold * c.args.rates.sold) c.args.rates.bought in
     record {
-      bounded = (omega (arith, done.sold, some, c.requires.0), omega (arith, done.sold), omega (arith, done.paid, d));
+      bounded = (omega (arith, done.sold, some, c.requires.some), omega (arith, done.sold), omega (arith, done.paid, d));
       kept = done.book.capacity;
       turned = λ s b first p here.
           turned s b first p.ready c.args.at.sold c.args.at.bought c.args.at c.args.rest _ _ here c.args.rates p

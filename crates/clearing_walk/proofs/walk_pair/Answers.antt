@@ -56,4 +56,4 @@ returns g c =
     }
 
 pub turn-requires : goal.turn-requires
-turn-requires g c = (c.loop-rest-test.true, (omega (arith, c.loop-rest.invariant.0, c.requires.0), c.requires.1))
+turn-requires g c = record { some = c.loop-rest-test.true; most = omega (arith, c.loop-rest.invariant.0, c.requires) }

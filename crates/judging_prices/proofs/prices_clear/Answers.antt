@@ -5,6 +5,6 @@ use Rattle.judging_prices.proofs.prices_clear.Goals as goal
 
 pub returns : goal.returns
 returns c = record {
-  row = λ few. told_assets _ _ 10 c.report.result (λ x e. grind (arith, nat_tests)) (λ x e. grind (arith, nat_tests)) (c.report.ensures few);
+  row = λ few. told_assets _ _ 10 c.report.result (λ x e. grind (arith, nat_tests)) (λ x e. grind (arith, nat_tests)) (c.report.ensures tt);
   many = λ h. absurd (omega arith);
 }

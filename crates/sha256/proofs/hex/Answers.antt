@@ -1,40 +1,35 @@
-use Rattle.std.proofs.Common.{◌≡◌, ℕ, ◌+◌, ◌*◌, ◌/◌, ◌<◌, ◌≤◌, List, [], ◌∷◌, ◌++◌, length, get_or, take, set, sym, ap, ◌∙◌, arith}
-use Rattle.std.proofs.lemmas.List.{length-set, take_all, take_more, take_more_set, flat_map_more, append_assoc}
-use Rattle.sha256.specs.Hex.{hex_digit, hex_byte, hex_of}
+use Rattle.std.proofs.Common.{◌≡◌, ℕ, zero, suc, ◌/◌, ◌%◌, ◌<◌, ◌==◌, Bool, true, ◌&&◌, List, [], ◌∷◌, slice_index, inl, inr, refl, ◌∙◌, arith, rules}
+use Rattle.std.proofs.lemmas.Bool.{and_parts, cases_lt, eqb-true}
+use Rattle.hex.specs.Hex.{encode_with, lower_digits}
+use Rattle.sha256.specs.Hex.{hex_digit, hex_of}
 use Rattle.sha256.proofs.hex.Goals as goal
 
--- two characters more
-written : (text : List ℕ) (i x y : ℕ) → 2 * i + 1 < length text
-    → take (2 * (i + 1)) (set (set text (2 * i) x) (2 * i + 1) y) ≡ take (2 * i) text ++ x ∷ y ∷ []
-written text i x y room =
-    let n : 2 * (i + 1) ≡ (2 * i + 1) + 1 = omega arith in
-    let low : 2 * i < length text = omega arith in
-    let l : 2 * i + 1 < length (set text (2 * i) x) = simp length-set (omega arith) in
-    ap (λ k. take k (set (set text (2 * i) x) (2 * i + 1) y)) n
-    ∙ (take_more_set (set text (2 * i) x) (2 * i + 1) y l
-    ∙ (ap (λ z. z ++ y ∷ []) (take_more_set text (2 * i) x low) ∙ append_assoc (take (2 * i) text) (x ∷ []) (y ∷ [])))
+-- the first n digits of the library's table are these
+abbrev alike : ℕ → Bool
+alike zero = true
+alike (suc n) = slice_index lower_digits n == hex_digit n && alike n
 
--- one byte more
-hex_more : (bs : List ℕ) (i : ℕ) → i < length bs → hex_of (take (i + 1) bs) ≡ hex_of (take i bs) ++ hex_byte (get_or bs i 0)
-hex_more bs i l = ap hex_of (take_more bs i 0 l) ∙ sym (flat_map_more hex_byte [] (take i bs) (get_or bs i 0))
+alike_at : (n d : ℕ) → alike n ≡ true → d < n → slice_index lower_digits d ≡ hex_digit d
+alike_at zero d h lt = absurd (omega arith)
+alike_at (suc n) d h lt =
+    let parts = and_parts (slice_index lower_digits n == hex_digit n) (alike n) h in
+    elim (cases_lt d n) [
+      | inl below ↦ alike_at n d parts.1 below
+      | inr top ↦ let e : d ≡ n = omega arith in rw e (eqb-true (slice_index lower_digits n) (hex_digit n) parts.0)
+    ]
 
-pub loop-i-preserved : goal.loop-i-preserved
-loop-i-preserved c =
-    let text = c.loop-i.text in
-    let i = c.loop-i.i in
-    let bs = c.args.digest.now in
-    let room : 2 * i + 1 < length text = omega (arith, c.loop-i.invariant.0) in
-    let l : i < length bs = omega arith in (
-      length-set _ _ _ ∙ (length-set _ _ _ ∙ c.loop-i.invariant.0),
-      written text i c.hex_digit.result c.hex_digit-in-loop-i.result room
-          ∙ (ap (λ x. take (2 * i) text ++ x ∷ c.hex_digit-in-loop-i.result ∷ []) c.hex_digit.ensures
-          ∙ (ap (λ x. take (2 * i) text ++ hex_digit (get_or bs i 0 / 16) ∷ x ∷ []) c.hex_digit-in-loop-i.ensures
-          ∙ (ap (λ x. x ++ hex_byte (get_or bs i 0)) c.loop-i.invariant.1 ∙ sym (hex_more bs i l)))),
-    )
+digit : (d : ℕ) → d < 16 → slice_index lower_digits d ≡ hex_digit d
+digit d lt = alike_at 16 d refl lt
+
+encoded : (bs : List ℕ) → ((i : ℕ) → slice_index bs i < 256) → encode_with lower_digits bs ≡ hex_of bs
+unfolding encode_with
+encoded [] h = refl
+encoded (b ∷ bs) h =
+    let low : b < 256 = h 0 in
+    let x : slice_index lower_digits (b / 16) ≡ hex_digit (b / 16) = digit (b / 16) (omega arith) in
+    let y : slice_index lower_digits (b % 16) ≡ hex_digit (b % 16) = digit (b % 16) (omega arith) in
+    let r : encode_with lower_digits bs ≡ hex_of bs = encoded bs (λ i. h (suc i)) in
+    λ i. x i ∷ y i ∷ r i
 
 pub returns : goal.returns
-returns c =
-    let i : c.loop-i.i ≡ 32 = omega arith in
-    let t : length c.loop-i.text ≤ 64 = omega (arith, c.loop-i.invariant.0) in
-    let d : length c.args.digest.now ≤ 32 = omega arith in
-    sym (take_all 64 c.loop-i.text t) ∙ (rw i at c.loop-i.invariant.1 ∙ ap hex_of (take_all 32 c.args.digest.now d))
+returns c = let e : c.encode_to_slice.new.output ≡ encode_with lower_digits c.args.digest.now = search rules in e ∙ encoded c.args.digest.now c.fits-digest

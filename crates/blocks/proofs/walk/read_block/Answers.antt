@@ -1,15 +1,16 @@
-use Rattle.std.proofs.Common.{◌≡◌, ℕ, ◌≤◌, List, [], ◌∷◌, ◌++◌, length, sym, ◌∙◌, subst, inr, arith}
+use Rattle.std.proofs.Common.{rules, ◌≡◌, ℕ, ◌+◌, ◌<◌, ◌≤◌, List, [], ◌∷◌, ◌++◌, length, sym, ◌∙◌, subst, inr, arith}
 use Rattle.std.proofs.lemmas.Result.{err_from_is_err_and}
 use Rattle.commands.specs.Format.{Cmd, got}
 use Rattle.commands.specs.Shown.{shown}
 use Rattle.blocks.specs.Stages.{admits, afterwards, stepped}
-use Rattle.blocks.specs.Drafts.{spoken}
+use Rattle.blocks.specs.Drafts.{added, spoken}
 use Rattle.commands.specs.declared.command.Command.{Command}
 use Rattle.commands.specs.declared.command.Command.TheVariants.{End}
+use Rattle.arrayvec.specs.ArrayVec.{array_vec_len}
 use Rattle.blocks.specs.declared.drafted.Draft.{Draft}
 use Rattle.blocks.specs.declared.stage.Stage.{Stage}
-use Rattle.blocks.specs.Readable.{Readable, Stops, is_begin}
-use Rattle.blocks.proofs.Drafting.{pairs_few, room, full, overflow, overflow_not}
+use Rattle.blocks.specs.Readable.{Readable, Stops, is_begin, transactions}
+use Rattle.blocks.proofs.Drafting.{room, full}
 use Rattle.commands.proofs.Cuts.{whole_moves, shown_end}
 use Rattle.blocks.proofs.Walking.{Took, Walked, step_took, step_halts, walked_more, stops_step, stops_excess, stops_trailing, stops_missing, counted, finish}
 use Rattle.blocks.proofs.Fitting.{readable_fits}
@@ -47,10 +48,9 @@ returns-then-reading-bytes c =
 pub invariant_of-result : goal.invariant_of-result
 invariant_of-result c =
     let i = c.loop-at.invariant in
-    let s = i.2.says in
     let r = read c.args.bytes.now i.1 c.loop-at.at c.loop-at.stage c.loop-at.draft i.2 _ _ c.in_ok-reading.ensures
     c.in-End.is c.if-reading-bytes.false i.0 in
-    record { pairs = pairs_few c.loop-at.draft i.1 c.loop-at.stage s; few = s.few; ranges = readable_fits c.args.bytes.now (spoken c.loop-at.draft) r }
+    record { ranges = readable_fits c.args.bytes.now (spoken c.loop-at.draft) r }
 
 pub returns-in-End : goal.returns-in-End
 returns-in-End c =
@@ -58,35 +58,29 @@ returns-in-End c =
     read c.args.bytes.now i.1 c.loop-at.at c.loop-at.stage c.loop-at.draft i.2 _ _ c.in_ok-reading.ensures
     c.in-End.is c.if-reading-bytes.false i.0
 
-pub overflows-requires : goal.overflows-requires
-overflows-requires c = c.loop-at.invariant.2.says.few
-
-pub returns-then-overflows : goal.returns-then-overflows
-returns-then-overflows c =
+pub returns-in_err-map_err : goal.returns-in_err-map_err
+returns-in_err-map_err c =
+    let p = err_from_is_err_and c.from_residual-in_err-map_err.result c.from_residual-in_err-map_err.ensures.1 in
     let bs = c.args.bytes.now in
     let at = c.loop-at.at in
     let g = c.loop-at.stage in
+    let d = c.loop-at.draft in
     let i = c.loop-at.invariant in
     let x = shown c.in_ok-reading.reading.command in
     let n = c.in_ok-reading.reading.next in
     let t = step_took bs at (admits g) x n c.in_ok-reading.ensures in
-    let f = full c.loop-at.draft.count x i.2.says.few (overflow c.loop-at.draft.count x c.if-overflows.ensures) in
-    inr (
-      i.0,
-      subst (Stops is_begin bs) (sym c.at_byte-then-overflows.ensures)
-          (stops_excess is_begin bs i.1 at g i.2.reached x n t (counted bs i.1 at g c.loop-at.draft i.2 ∙ f.0) f.1),
-    )
+    let e : (1024 < array_vec_len d.transactions + length (transactions x)) × (c.in_err-map_err.field-0.0 ≡ record { number = 6; first = at; second = 0 }) = search rules in
+    let f = full (array_vec_len d.transactions) x i.2.says.few e.0 in
+    rw (p.1, p.2)
+    (inr (i.0, subst (Stops is_begin bs) (sym e.1) (stops_excess is_begin bs i.1 at g i.2.reached x n t (counted bs i.1 at g d i.2 ∙ f.0) f.1)))
 
 pub add-requires : goal.add-requires
 add-requires c =
-    let bs = c.args.bytes.now in
-    let at = c.loop-at.at in
-    let g = c.loop-at.stage in
     let i = c.loop-at.invariant in
+    let g = c.loop-at.stage in
     let x = shown c.in_ok-reading.reading.command in
-    let t = step_took bs at (admits g) x _ c.in_ok-reading.ensures in
-    room c.loop-at.draft i.1 g x i.2.says t.admitted t.ranged
-    (overflow_not c.loop-at.draft.count x c.if-overflows.ensures)
+    let t = step_took c.args.bytes.now c.loop-at.at (admits g) x _ c.in_ok-reading.ensures in
+    record { room = room c.loop-at.draft i.1 g x i.2.says t.admitted t.ranged; few = i.2.says.few }
 
 pub loop-at-smaller : goal.loop-at-smaller
 loop-at-smaller c =
@@ -109,11 +103,12 @@ loop-at-preserved c =
     let x = shown c.in_ok-reading.reading.command in
     let n = c.in_ok-reading.reading.next in
     let t = step_took bs at (admits g) x n c.in_ok-reading.ensures in
-    let w = walked_more bs i.1 at g d i.2 x n t (shown_end _ c.in_default.not-End) (overflow_not c.loop-at.draft.count x c.if-overflows.ensures) in (
+    let more : (array_vec_len d.transactions + length (transactions x) ≤ 1024) × (c.add.new.self ≡ added d x) = search rules in
+    let w = walked_more bs i.1 at g d i.2 x n t (shown_end _ c.in_default.not-End) more.0 in (
       i.0,
       i.1 ++ x ∷ [],
       subst (λ h. Walked bs (i.1 ++ x ∷ []) n h c.add.new.self) (sym c.after-stage.ensures)
-          (subst (Walked bs (i.1 ++ x ∷ []) n (afterwards x)) (sym c.add.ensures) w),
+          (subst (Walked bs (i.1 ++ x ∷ []) n (afterwards x)) (sym more.1) w),
     )
 
 pub returns : goal.returns

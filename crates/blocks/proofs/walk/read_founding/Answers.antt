@@ -1,4 +1,4 @@
-use Rattle.std.proofs.Common.{◌≡◌, ℕ, ◌≤◌, List, [], ◌∷◌, ◌++◌, length, take, sym, ap, ◌∙◌, subst, inr, arith, Bor}
+use Rattle.std.proofs.Common.{◌≡◌, ℕ, ◌≤◌, List, [], ◌∷◌, ◌++◌, length, sym, ap, ◌∙◌, subst, inr, arith, Bor}
 use Rattle.std.proofs.lemmas.Result.{err_from_is_err_and}
 use Rattle.terms.specs.declared.Grant.{Grant}
 use Rattle.commands.specs.declared.command.Command.{Command}
@@ -14,10 +14,10 @@ use Rattle.blocks.proofs.Fitting.{founds_fits}
 use Rattle.blocks.proofs.walk.read_founding.Goals as goal
 
 -- at the end command, with no bytes after it
-read : (bs : List ℕ) (cs : List Cmd) (at : ℕ) (gs : List Grant) (k : ℕ) → Gathered bs cs at gs k → (x : Command) (n : ℕ)
-    → got (shown x) n ≡ stepped (admits Grants) bs at → x ≡ End → length bs ≤ n → length bs ≤ 40000 → Founds bs (take k gs)
-read bs cs at gs k w x n e is l h =
-    founds bs cs at gs k w n (subst (λ y. Took bs at (admits Grants) (shown y) n) is (step_took bs at (admits Grants) (shown x) n e)) l h
+read : (bs : List ℕ) (cs : List Cmd) (at : ℕ) (gs : List Grant) → Gathered bs cs at gs → (x : Command) (n : ℕ)
+    → got (shown x) n ≡ stepped (admits Grants) bs at → x ≡ End → length bs ≤ n → length bs ≤ 40000 → Founds bs gs
+read bs cs at gs w x n e is l h =
+    founds bs cs at gs w n (subst (λ y. Took bs at (admits Grants) (shown y) n) is (step_took bs at (admits Grants) (shown x) n e)) l h
 
 pub returns-in_err-reading : goal.returns-in_err-reading
 returns-in_err-reading c =
@@ -43,17 +43,14 @@ returns-then-reading-bytes c =
 pub invariant_of-result : goal.invariant_of-result
 invariant_of-result c =
     let i = c.loop-at.invariant in
-    let r = read c.args.bytes.now i.1 c.loop-at.at c.loop-at.grants c.loop-at.count i.2 _ _ c.in_ok-reading.ensures
+    let r = read c.args.bytes.now i.1 c.loop-at.at c.loop-at.grants.items i.2 _ _ c.in_ok-reading.ensures
     c.in-End.is c.if-reading-bytes.false i.0 in
-    let h = i.2.room in
-    let t = c.loop-at-test.true in
-    let few : c.loop-at.count ≤ 579 = omega (arith, h, t, i.0) in
-    record { few = few; ranges = founds_fits c.args.bytes.now (take c.loop-at.count c.loop-at.grants) r }
+    record { ranges = founds_fits c.args.bytes.now c.loop-at.grants.items r }
 
 pub returns-in-End : goal.returns-in-End
 returns-in-End c =
     let i = c.loop-at.invariant in
-    read c.args.bytes.now i.1 c.loop-at.at c.loop-at.grants c.loop-at.count i.2 _ _ c.in_ok-reading.ensures
+    read c.args.bytes.now i.1 c.loop-at.at c.loop-at.grants.items i.2 _ _ c.in_ok-reading.ensures
     c.in-End.is c.if-reading-bytes.false i.0
 
 pub unreachable-requires : goal.unreachable-requires
@@ -70,12 +67,12 @@ grant bs at x n a b r e is eq =
     ap shown is ∙ (λ i. found (record { account = a; balances = sym eq i })) in
     subst (λ y. Took bs at (admits Grants) y n) same (step_took bs at (admits Grants) (shown x) n e)
 
-pub bounds-grants-count : goal.bounds-grants-count
-bounds-grants-count c =
+pub push-requires : goal.push-requires
+push-requires c =
     let i = c.loop-at.invariant in
     let t = grant c.args.bytes.now c.loop-at.at c.in_ok-reading.reading.command c.in_ok-reading.reading.next _ _ _
     c.in_ok-reading.ensures c.in-Found.is c.eight_balances.ensures in
-    grant_fits c.args.bytes.now i.1 c.loop-at.at c.loop-at.grants c.loop-at.count i.2 _ _ t i.0
+    (omega arith, grant_fits c.args.bytes.now i.1 c.loop-at.at c.loop-at.grants.items i.2 _ _ t i.0)
 
 pub loop-at-smaller : goal.loop-at-smaller
 loop-at-smaller c =
@@ -93,7 +90,10 @@ loop-at-preserved c =
     let t = grant c.args.bytes.now c.loop-at.at c.in_ok-reading.reading.command c.in_ok-reading.reading.next _ _ _
     c.in_ok-reading.ensures c.in-Found.is c.eight_balances.ensures in
     let g : Grant = record { account = c.in-Found.account; balances = c.eight_balances.result } in
-    (i.0, i.1 ++ found g ∷ [], gathered_more c.args.bytes.now i.1 c.loop-at.at c.loop-at.grants c.loop-at.count i.2 g _ t i.0)
+    let bs = c.args.bytes.now in
+    let n = c.in_ok-reading.reading.next in
+    let cs = i.1 ++ found g ∷ [] in
+    (i.0, cs, subst (Gathered bs cs n) (sym c.push.ensures.items) (gathered_more bs i.1 c.loop-at.at c.loop-at.grants.items i.2 g n t i.0))
 
 pub returns : goal.returns
 returns c =

@@ -1,51 +1,38 @@
-use Rattle.std.proofs.Common.{◌+◌, [], ◌∷◌, ◌++◌, sym, refl, ap, ◌∙◌, subst, arith}
+use Rattle.std.proofs.Common.{◌≡◌, [], ◌∷◌, ◌++◌, refl, ◌∙◌, subst, rules, arith}
 use Rattle.std.proofs.lemmas.Result.{err_from_is_err_and}
 use Rattle.commands.specs.Format.{command_at}
 use Rattle.commands.specs.Extent.{Stand}
-use Rattle.commands.proofs.Cuts.{skip_upto, letter_end, end_letter, stand_push, unended_push, whole_moves, end_width, endless}
+use Rattle.commands.specs.Kinds.{letter_of}
+use Rattle.commands.specs.declared.kind.Kind.{Kind}
+use Rattle.commands.specs.declared.kind.Kind.TheVariants.{Begin, Price, Volume, Create, Pay, Place, Cancel, Found, End}
+use Rattle.commands.proofs.Cuts.{skip_upto, end_letter, stand_push, unended_push, endless}
 use Rattle.commands.proofs.extent.length.Goals as goal
 
-pub returns-in_err-next : goal.returns-in_err-next
-returns-in_err-next c =
+-- only the end has the letter E
+other : (k : Kind) → (k ≡ End → ⊥) → letter_of k ≡ 69 → ⊥
+other Begin n e = omega arith
+other Price n e = omega arith
+other Volume n e = omega arith
+other Create n e = omega arith
+other Pay n e = omega arith
+other Place n e = omega arith
+other Cancel n e = omega arith
+other Found n e = omega arith
+other End n e = n refl
+
+pub returns-in_err-kind : goal.returns-in_err-kind
+returns-in_err-kind c =
     let p = err_from_is_err_and c.from_residual.result c.from_residual.ensures.1 in
-    let i = c.loop-at.invariant in
+    let i = c.loop-kind.invariant in
     rw (p.1, p.2)
-    (endless c.args.bytes.now c.loop-at.at c.in_err-next.field-0.0 i.0 i.1 i.2 c.in_err-next.ensures)
+    (endless c.args.bytes.now c.loop-kind.at c.in_err-kind.field-0.0 i.0 i.1 i.2 c.in_err-kind.ensures.place)
 
-pub returns-then-bytes-at-eq69 : goal.returns-then-bytes-at-eq69
-returns-then-bytes-at-eq69 c =
+pub loop-kind-preserved : goal.loop-kind-preserved
+loop-kind-preserved c =
     let bs = c.args.bytes.now in
-    let at = c.loop-at.at in
-    let i = c.loop-at.invariant in
-    let q = skip_upto bs at _ c.in_ok-next.ensures in
-    let l = letter_end bs at c.if-bytes-at-eq69.true in
-    let m = whole_moves bs at q.0 in
-    record {
-      commands = i.0;
-      place = at;
-      stand = i.1;
-      unended = i.2;
-      here = q.0;
-      last = l;
-      upto = sym q.1 ∙ ap (λ w. at + w) (end_width bs at q.0 l);
-      within = omega (arith, m.1, q.1);
-    }
-
-pub loop-at-smaller : goal.loop-at-smaller
-loop-at-smaller c =
-    let bs = c.args.bytes.now in
-    let at = c.loop-at.at in
-    let q = skip_upto bs at _ c.in_ok-next.ensures in
-    let m = whole_moves bs at q.0 in
-    let e = q.1 in
-    omega (arith, m.0, m.1, e)
-
-pub loop-at-preserved : goal.loop-at-preserved
-loop-at-preserved c =
-    let bs = c.args.bytes.now in
-    let at = c.loop-at.at in
-    let i = c.loop-at.invariant in
-    let q = skip_upto bs at _ c.in_ok-next.ensures in
+    let at = c.loop-kind.at in
+    let i = c.loop-kind.invariant in
+    let q = skip_upto bs at _ c.in_ok-kind.ensures.place in
     let d = command_at bs at in
     let s = stand_push bs 0 i.0 at d i.1 q.0 refl in
-    (i.0 ++ d ∷ [], subst (λ n. Stand bs 0 (i.0 ++ d ∷ []) n) q.1 s, unended_push i.0 d i.2 (end_letter bs at q.0 c.if-bytes-at-eq69.false))
+    (i.0 ++ d ∷ [], subst (λ n. Stand bs 0 (i.0 ++ d ∷ []) n) q.1 s, unended_push i.0 d i.2 (end_letter bs at q.0 (λ e. other c.in_ok-kind.kind (search rules) (c.in_ok-kind.ensures.kind ∙ e))))

@@ -1,17 +1,18 @@
-use Rattle.std.proofs.Common.{sym, ◌∙◌, arith}
-use Rattle.terms.specs.Order.{words}
+use Rattle.std.proofs.Common.{◌≡◌, true, false, arith, rules}
+use Rattle.terms.specs.Order.{lower, words}
 use Rattle.fills.proofs.Next.{none_above, next_in, between_none, between_next, between_end, between_fits}
 use Rattle.fills.proofs.standing.sum_between.Goals as goal
 
 pub loop-key-init : goal.loop-key-init
 loop-key-init g c = omega arith
 
-pub returns-then-not-precedes : goal.returns-then-not-precedes
-returns-then-not-precedes g c =
+pub returns-then-ge : goal.returns-then-ge
+returns-then-ge g c =
     let o = g.B.OfferBook.book c.args.book.now in
     let o_sound = g.met.B.OfferBook.sound c.args.book.now in
     let n = next_in o o_sound (words c.loop-key.last) c.in-Some.key c.in-Some.ensures in
-    let e = between_end o.offers (words c.loop-key.last) (words c.args.high) c.in-Some.key n (sym c.precedes.ensures ∙ c.if-not-precedes.true) in
+    let below : lower (words c.in-Some.key) (words c.args.high) ≡ false = search rules in
+    let e = between_end o.offers (words c.loop-key.last) (words c.args.high) c.in-Some.key n below in
     omega (arith, e, c.loop-key.invariant)
 
 pub overflow_add-total : goal.overflow_add-total
@@ -19,7 +20,8 @@ overflow_add-total g c =
     let o = g.B.OfferBook.book c.args.book.now in
     let o_sound = g.met.B.OfferBook.sound c.args.book.now in
     let n = next_in o o_sound (words c.loop-key.last) c.in-Some.key c.in-Some.ensures in
-    let e = between_next o.offers (words c.loop-key.last) (words c.args.high) c.in-Some.key n (sym c.precedes.ensures ∙ c.if-not-precedes.false) in
+    let below : lower (words c.in-Some.key) (words c.args.high) ≡ true = search rules in
+    let e = between_next o.offers (words c.loop-key.last) (words c.args.high) c.in-Some.key n below in
     omega (arith, e, c.loop-key.invariant, c.amount-total.ensures, between_fits o o_sound (words c.args.low) (words c.args.high))
 
 pub loop-key-smaller : goal.loop-key-smaller
@@ -27,7 +29,8 @@ loop-key-smaller g c =
     let o = g.B.OfferBook.book c.args.book.now in
     let o_sound = g.met.B.OfferBook.sound c.args.book.now in
     let n = next_in o o_sound (words c.loop-key.last) c.in-Some.key c.in-Some.ensures in
-    let e = between_next o.offers (words c.loop-key.last) (words c.args.high) c.in-Some.key n (sym c.precedes.ensures ∙ c.if-not-precedes.false) in
+    let below : lower (words c.in-Some.key) (words c.args.high) ≡ true = search rules in
+    let e = between_next o.offers (words c.loop-key.last) (words c.args.high) c.in-Some.key n below in
     omega (arith, e, n.some)
 
 pub loop-key-preserved : goal.loop-key-preserved
@@ -35,7 +38,8 @@ loop-key-preserved g c =
     let o = g.B.OfferBook.book c.args.book.now in
     let o_sound = g.met.B.OfferBook.sound c.args.book.now in
     let n = next_in o o_sound (words c.loop-key.last) c.in-Some.key c.in-Some.ensures in
-    let e = between_next o.offers (words c.loop-key.last) (words c.args.high) c.in-Some.key n (sym c.precedes.ensures ∙ c.if-not-precedes.false) in
+    let below : lower (words c.in-Some.key) (words c.args.high) ≡ true = search rules in
+    let e = between_next o.offers (words c.loop-key.last) (words c.args.high) c.in-Some.key n below in
     omega (arith, e, c.loop-key.invariant, c.amount-total.ensures)
 
 pub returns : goal.returns

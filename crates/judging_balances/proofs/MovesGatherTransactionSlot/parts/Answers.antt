@@ -1,4 +1,4 @@
-use Rattle.std.proofs.Common.{◌≡◌, [], ◌∷◌, sym, ap, ◌∙◌, subst}
+use Rattle.std.proofs.Common.{◌≡◌, [], ◌∷◌, sym, ap, ap₂, ◌∙◌, subst, rules}
 use Rattle.terms.specs.Holdings.{amount_at}
 use Rattle.judging_balances.specs.Moves.{moves_by, brings, slot}
 use Rattle.judging_balances.proofs.MovesGatherTransactionSlot.parts.Goals as goal
@@ -6,5 +6,6 @@ use Rattle.judging_balances.proofs.MovesGatherTransactionSlot.parts.Goals as goa
 pub returns-in-Cancel : goal.returns-in-Cancel
 returns-in-Cancel g c =
     let f = amount_at (g.B.OfferBook.book c.args.self.now.book.now).offers in
-    subst (λ a. c.brings-in-Cancel.result ∷ [] ≡ moves_by f c.args.t.source a) (sym c.in-Cancel.is)
-    (ap (λ z. z ∷ []) (c.brings-in-Cancel.ensures ∙ ap (brings (slot c.args.t.source c.in-Cancel.sold)) c.amount.ensures))
+    let own : c.own-in-Cancel.result ≡ slot c.args.t.source c.in-Cancel.sold = search rules in
+    subst (λ a. c.comes-in-Cancel.result ∷ [] ≡ moves_by f c.args.t.source a) (sym c.in-Cancel.is)
+    (ap (λ z. z ∷ []) (c.comes-in-Cancel.ensures ∙ ap₂ brings own c.amount-amount.ensures))

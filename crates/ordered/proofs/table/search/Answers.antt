@@ -1,22 +1,21 @@
-use Rattle.std.proofs.Common.{◌≡◌, ℕ, true, false, List, arith}
+use Rattle.std.proofs.Common.{◌≡◌, ◌<◌, true, false, length, get_or, rules}
 use Rattle.terms.specs.Order.{lower}
-use Rattle.ordered.proofs.Windows.{told_by, gap_here, at_here, gap_end}
+use Rattle.ordered.proofs.Keys.{le_is}
+use Rattle.ordered.proofs.Cuts.{gap_here, at_here}
 use Rattle.ordered.proofs.table.search.Goals as goal
 
-pub returns-then-precedes : goal.returns-then-precedes
-returns-then-precedes g c =
-    let rank : g.row.R.Denot → List ℕ = λ x. g.R.Id.SortKey.rank (g.R.Keyed.key x) in
-    let less : lower (g.R.Id.SortKey.rank c.args.key) (rank c.index-records-i.result) ≡ true =
-    told_by (λ k. lower (g.R.Id.SortKey.rank c.args.key) (g.R.Id.SortKey.rank k)) c.key.result (g.R.Keyed.key c.index-records-i.result) true c.key.ensures c.if-precedes.ensures in
-    λ up. gap_here rank c.args.records.now _ up _ c.index-records-i.result (c.lower_bound-i.ensures up) (omega arith) c.index-records-i.is less
+pub returns-in-Some-clause-found : goal.returns-in-Some-clause-found
+returns-in-Some-clause-found g c =
+    let most = le_is g.R.Id.SortKey.rank g.met.R.Id.Ord.matches_partial_cmp g.met.R.Id.SortKey.follows g.met.R.Id.Ord.total in
+    let below : c.lower_bound-i.result < length c.args.records.now = search rules in
+    let is : c.in-Some.x.now ≡ get_or c.args.records.now c.lower_bound-i.result c.in-Some.x.now = search rules in
+    let here : lower (g.R.Id.SortKey.rank c.args.key) (g.R.Id.SortKey.rank (g.R.Keyed.key c.in-Some.x.now)) ≡ false = search (rules, most) in
+    λ up. at_here _ c.args.records.now _ up c.lower_bound-i.result c.in-Some.x.now (c.lower_bound-i.ensures.cut up) below is here
 
-pub returns-else-precedes : goal.returns-else-precedes
-returns-else-precedes g c =
-    let rank : g.row.R.Denot → List ℕ = λ x. g.R.Id.SortKey.rank (g.R.Keyed.key x) in
-    let less : lower (g.R.Id.SortKey.rank c.args.key) (rank c.index-records-i.result) ≡ false =
-    told_by (λ k. lower (g.R.Id.SortKey.rank c.args.key) (g.R.Id.SortKey.rank k)) c.key.result (g.R.Keyed.key c.index-records-i.result) false c.key.ensures c.if-precedes.ensures in
-    λ up. at_here rank c.args.records.now _ up _ c.index-records-i.result (c.lower_bound-i.ensures up) (omega arith) c.index-records-i.is less
-
-pub returns-else-i-records : goal.returns-else-i-records
-returns-else-i-records g c =
-    λ up. gap_end (λ x. g.R.Id.SortKey.rank (g.R.Keyed.key x)) c.args.records.now _ _ (c.lower_bound-i.ensures up) (omega arith)
+pub returns-in_default-clause-found : goal.returns-in_default-clause-found
+returns-in_default-clause-found g c =
+    let most = le_is g.R.Id.SortKey.rank g.met.R.Id.Ord.matches_partial_cmp g.met.R.Id.SortKey.follows g.met.R.Id.Ord.total in
+    let below : c.lower_bound-i.result < length c.args.records.now = search rules in
+    let is : c.in-Some.x.now ≡ get_or c.args.records.now c.lower_bound-i.result c.in-Some.x.now = search rules in
+    let here : lower (g.R.Id.SortKey.rank c.args.key) (g.R.Id.SortKey.rank (g.R.Keyed.key c.in-Some.x.now)) ≡ true = search (rules, most) in
+    λ up. gap_here _ c.args.records.now _ up c.lower_bound-i.result c.in-Some.x.now (c.lower_bound-i.ensures.cut up) below is here

@@ -1,32 +1,33 @@
-use Rattle.std.proofs.Common.{not, sym, ap, ◌∙◌, true≢false}
-use Rattle.std.proofs.lemmas.Bool.{both_ways}
+use Rattle.std.proofs.Common.{◌≡◌, Decides, true≢false, sym, ◌∙◌, rules}
+use Rattle.std.proofs.lemmas.Slice.Eq.{slice_eq-Decides}
 use Rattle.std.proofs.lemmas.Bool.Decides.{Decides-eqb}
-use Rattle.pairing.proofs.Rows.{not_matches}
+use Rattle.std.proofs.lemmas.Bool.{eqb-true}
+use Rattle.terms.specs.declared.Volume.{Volume}
+use Rattle.terms.specs.contracts.VolumePartialEq.TheImpl.{ghosts}
+use Rattle.pairing.proofs.same.same_heading.Goals.{then-height, else-height, then-eq, else-eq}
 use Rattle.pairing.proofs.same.same_heading.Goals as goal
 
-pub returns-then-ne : goal.returns-then-ne
-returns-then-ne c =
-    let d = not_matches Decides-eqb c.parent.result.now c.parent-2.result.now c.ne.result c.ne.ensures in (
-      λ e. absurd (true≢false (sym e)),
-      λ s. absurd (both_ways (not c.ne.result) (ap not c.if-ne.true) (d.1 (c.parent.ensures ∙ sym s.parent ∙ sym c.parent-2.ensures))),
-    )
+decides : (a b : Volume) → Decides (ghosts.eq a b) (a ≡ b)
+decides a b = search rules
 
-pub returns-then-ne-2 : goal.returns-then-ne-2
-returns-then-ne-2 c =
-    let d = not_matches Decides-eqb c.prices.result.now c.prices-2.result.now c.ne-2.result c.ne-2.ensures in (
-      λ e. absurd (true≢false (sym e)),
-      λ s. absurd (both_ways (not c.ne-2.result) (ap not c.if-ne-2.true) (d.1 (c.prices.ensures ∙ sym s.prices ∙ sym c.prices-2.ensures))),
-    )
-
-pub returns : goal.returns
-returns c =
-    let p = (not_matches Decides-eqb c.parent.result.now c.parent-2.result.now c.ne.result c.ne.ensures).0 (ap not c.if-ne.false) in
-    let q = (not_matches Decides-eqb c.prices.result.now c.prices-2.result.now c.ne-2.result c.ne-2.ensures).0 (ap not c.if-ne-2.false) in (
-      λ e. record {
-        height = sym c.height-2.ensures ∙ sym c.if-height.false ∙ c.height.ensures;
-        parent = sym c.parent-2.ensures ∙ sym p ∙ c.parent.ensures;
-        prices = sym c.prices-2.ensures ∙ sym q ∙ c.prices.ensures;
-        volumes = sym c.volumes-2.ensures ∙ sym (c.same_volumes.ensures.0 e) ∙ c.volumes.ensures;
-      },
-      λ s. c.same_volumes.ensures.1 (c.volumes.ensures ∙ sym s.volumes ∙ sym c.volumes-2.ensures),
-    )
+pub returns-then-eq-2 : goal.returns-then-eq-2
+returns-then-eq-2 c = elim c.if-eq.branch [
+  | else-eq w ↦ absurd (true≢false (sym c.if-eq-2.true ∙ (w.value-is ∙ w.if-eq.false)))
+  | then-eq w ↦ elim c.if-height.branch [
+    | else-height v ↦ absurd (v.if-height.false (eqb-true c.height.result c.height-2.result (sym v.value-is ∙ w.if-eq.true)))
+    | then-height v ↦
+        let p = slice_eq-Decides Decides-eqb v.parent.result.now v.parent-then-height.result.now v.eq.result v.eq.ensures in
+        let q = slice_eq-Decides Decides-eqb w.prices.result.now w.prices-then-eq.result.now w.eq-then-eq.result w.eq-then-eq.ensures in
+        let r = slice_eq-Decides decides c.volumes.result.now c.volumes-then-eq-2.result.now c.eq-then-eq-2.result c.eq-then-eq-2.ensures in
+        let same_parent = p.0 (sym v.value-is ∙ w.if-eq.true) in
+        let same_prices = q.0 (sym w.value-is ∙ c.if-eq-2.true) in (
+          λ e. record {
+            height = sym c.height-2.ensures ∙ sym v.if-height.true ∙ c.height.ensures;
+            parent = sym v.parent-then-height.ensures ∙ sym same_parent ∙ v.parent.ensures;
+            prices = sym w.prices-then-eq.ensures ∙ sym same_prices ∙ w.prices.ensures;
+            volumes = sym c.volumes-then-eq-2.ensures ∙ sym (r.0 e) ∙ c.volumes.ensures;
+          },
+          λ s. r.1 (c.volumes.ensures ∙ sym s.volumes ∙ sym c.volumes-then-eq-2.ensures),
+        )
+  ]
+]

@@ -1,46 +1,32 @@
-use Rattle.std.proofs.Common.{◌-◌, ◌<◌, length, take, sym, ◌∙◌, subst, arith}
-use Rattle.std.proofs.lemmas.List.{get_or-take, length-take}
-use Rattle.std.proofs.ByRecursion.{All-get_or}
-use Rattle.tally.specs.Tally.{Small}
-use Rattle.tally.proofs.Merge.{put_merged, put_new, put_first}
-use Rattle.tally.proofs.effects.add.Given as given
+use Rattle.std.proofs.Common.{◌≡◌, ◌-◌, ◌<◌, true, false, ◌∷◌, [], ◌++◌, length, get_or, ap, ◌∙◌, rules}
+use Rattle.terms.specs.Order.{lower}
+use Rattle.ordered.proofs.Keys.{ge_says}
+use Rattle.tally.specs.Tally.{net_of}
+use Rattle.tally.proofs.Merge.{lent_merged, lent_none, lent_new}
 use Rattle.tally.proofs.effects.add.Goals as goal
-use Rattle.tally.proofs.effects.add.Goals.{then-n-gt0+else-not-precedes, else-n-gt0}
+use Rattle.tally.proofs.effects.add.Goals.{in_default-via-in-None-1, in_default-via-in-Some+else-ge}
 
--- the last entry is small
-small : (g : given.Over) (c : goal.After-to-1 g) → Small c.index-to-n.result
-small g c =
-    let to = c.args.to.now in
-    let m : c.args.n - 1 < length (take c.args.n to) = simp length-take (omega arith) in
-    let i : c.args.n - 1 < c.args.n = omega arith in
-    subst Small (get_or-take c.args.n to (c.args.n - 1) c.index-to-n.result i ∙ sym c.index-to-n.is)
-    (All-get_or Small (take c.args.n to) (c.args.n - 1) c.index-to-n.result m c.requires.small)
+pub returns-clause-nets : goal.returns-clause-nets
+returns-clause-nets g c =
+    let told = ge_says g.K.SortKey.rank g.met.K.Ord.matches_partial_cmp g.met.K.SortKey.follows in
+    let some : 0 < length c.args.nets.now.items = search rules in
+    let is : c.in-Some.last.now ≡ get_or c.args.nets.now.items (length c.args.nets.now.items - 1) c.in-Some.last.now = search rules in
+    let low : lower (g.K.SortKey.rank c.in-Some.last.now.key) (g.K.SortKey.rank c.args.e.key) ≡ false = told _ _ c.ge.result true c.ge.ensures c.if-ge.true in
+    lent_merged g.K.SortKey.rank c.args.nets.now.items c.deref_mut.result.now c.in-Some.last.now c.args.e c.deref_mut.ensures.value some is low
 
-pub overflow_add-to : goal.overflow_add-to
-overflow_add-to g c =
-    let h = small g c in
-    omega (arith, h.0)
-
-pub overflow_add-to-then-not-precedes : goal.overflow_add-to-then-not-precedes
-overflow_add-to-then-not-precedes g c =
-    let h = small g c in
-    omega (arith, h.1)
-
-pub returns-then-not-precedes : goal.returns-then-not-precedes
-returns-then-not-precedes g c = record {
-  nets = put_merged g.K.SortKey.rank c.args.to.now c.args.n c.index-to-n.result c.args.e c.if-n-gt0.true (omega arith) c.index-to-n.is (sym c.precedes.ensures ∙ c.if-not-precedes.true);
-  most = omega arith;
-  fits = (omega arith, omega arith);
-}
-
-pub returns : goal.returns
-returns g c = record {
-  nets = elim c.if-n-gt0.branch [
-    | then-n-gt0+else-not-precedes w ↦
-        put_new g.K.SortKey.rank c.args.to.now c.args.n w.index-to-n.result c.args.e w.if-n-gt0.true c.requires.room w.index-to-n.is
-        (sym w.precedes.ensures ∙ w.if-not-precedes.false)
-    | else-n-gt0 w ↦ put_first g.K.SortKey.rank c.args.to.now c.args.n c.args.e (omega (arith, w.if-n-gt0.false)) c.requires.room
-  ];
-  most = omega arith;
-  fits = (omega arith, omega arith);
-}
+pub returns-2-clause-nets : goal.returns-2-clause-nets
+returns-2-clause-nets g c =
+    let told = ge_says g.K.SortKey.rank g.met.K.Ord.matches_partial_cmp g.met.K.SortKey.follows in
+    let w = g.K.SortKey.rank in
+    let to = c.args.nets.now.items in
+    c.push.ensures.items
+    ∙ elim c.in_default.branch [
+      | in_default-via-in-None-1 v ↦
+          let none : length to ≡ 0 = search rules in
+          ap (λ z. z.items ++ net_of c.args.e ∷ []) v.nets-is ∙ lent_none w to c.deref_mut.result.now c.args.e c.deref_mut.ensures.value none
+      | in_default-via-in-Some+else-ge v ↦
+          let some : 0 < length to = search rules in
+          let is : v.in-Some.last.now ≡ get_or to (length to - 1) v.in-Some.last.now = search rules in
+          let low : lower (w v.in-Some.last.now.key) (w c.args.e.key) ≡ true = told _ _ v.ge.result false v.ge.ensures v.if-ge.false in
+          ap (λ z. z.items ++ net_of c.args.e ∷ []) v.nets-is ∙ lent_new w to c.deref_mut.result.now v.in-Some.last.now c.args.e c.deref_mut.ensures.value some is low
+    ]
