@@ -169,7 +169,7 @@ pub fn print_runs<W: Write + Drop>(
     )?;
     let count = events.len();
     let agreed = match (pair.first.stop, pair.second.stop, differs) {
-        (Stop::NoMemory, _, _) | (_, Stop::NoMemory, _) => {
+        (Err(Stop::NoMemory), _, _) | (_, Err(Stop::NoMemory), _) => {
             writeln!(buffer, "The run stopped for want of memory.")?;
             false
         }
