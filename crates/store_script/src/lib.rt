@@ -9,4 +9,4 @@ mod words;
 
 pub use answer::Answer;
 pub use ask::{AccountAsk, Ask, OfferAsk};
-pub use lines::{Command, Line, Usage, parse};
+pub use lines::{Command, Line, Sizes, Usage, parse};

@@ -23,12 +23,19 @@ pub struct Command<'a> {
     pub ask: Ask,
 }
 
+// How many slots the stores and books have, and the highest number that an account may have.
+#[derive(Clone, Copy, PartialEq, Eq)]
+pub struct Sizes {
+    pub slots: usize,
+    pub top: u32,
+}
+
 #[derive(Drop)]
 pub enum Line<'a> {
     // empty, or a remark after #
     Blank,
-    // start again, with empty stores and books
-    Fresh { slots: usize, top: u32 },
+    // start again, with empty stores and books of these sizes
+    Fresh(Sizes),
     Command(Command<'a>),
 }
 
@@ -88,10 +95,8 @@ fn fresh<'a>(numbers: &[u64]) -> Option<Line<'a>> {
     if slots > MOST_SLOTS {
         return None;
     }
-    Some(Line::Fresh {
-        slots,
-        top: fit(top)?,
-    })
+    let top = fit(top)?;
+    Some(Line::Fresh(Sizes { slots, top }))
 }
 
 fn account_ask(verb: AccountVerb, numbers: &[u64]) -> Option<AccountAsk> {
@@ -187,6 +192,13 @@ where
     T::Error: Drop,
 {
     T::try_from(*number).ok()
+}
+
+impl fmt::Display for Sizes {
+    fn fmt<W: fmt::Write>(&self, f: &mut fmt::Formatter<W>) -> fmt::Result {
+        let Sizes { slots, top } = *self;
+        write!(f, "{slots} {top}")
+    }
 }
 
 impl fmt::Display for Usage {
