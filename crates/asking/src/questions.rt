@@ -28,7 +28,7 @@ pub enum Question {
 }
 
 // What a question is answered: a number, a digest, an account or a key, if there is one.
-#[derive(Clone, Copy)]
+#[derive(Clone, Copy, PartialEq, Eq, Debug)]
 pub enum Reply {
     Number(u64),
     Digest([u8; 32]),

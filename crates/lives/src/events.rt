@@ -14,7 +14,7 @@ pub enum Event<'a> {
 }
 
 // What an event is answered: done, refused with a fault, checked under a number, sold and paid, or a reply.
-#[derive(Clone, Copy)]
+#[derive(Clone, Copy, PartialEq, Eq, Debug)]
 pub enum Answer {
     Done,
     Refused(Fault),
@@ -25,7 +25,7 @@ pub enum Answer {
 
 // Why a run stopped: all events were answered; the next one names a checked block that is not held; or there was no
 // memory to go on.
-#[derive(Clone, Copy)]
+#[derive(Clone, Copy, PartialEq, Eq, Debug)]
 pub enum Stop {
     Finished,
     NotHeld,
