@@ -107,6 +107,7 @@ fn cut<'a>(bytes: &'a [u8]) -> (&'a [u8], &'a [u8])
 
 impl<'a> Twins<'a> {
     // One event more on each side.
+    #[tactic(auto, using(crate::proofs::Fair::paired_push))]
     fn push(&mut self, event: Event<'a>, other: Event<'a>) -> Result<(), AllocError>
         ensures { OnOk result (Paired self.old.first.items self.old.second.items → Fair (event_of event.entry) (event_of other.entry) → Paired self.new.first.items self.new.second.items) }
     {
