@@ -3,7 +3,6 @@
 
 ghost use Rattle.std.specs.Prelude.{◌≡◌};
 ghost use Rattle.exchange.specs.Life.{reply as replies};
-ghost use Rattle.replica.specs.Meaning.{state_of};
 ghost use Rattle.asking.specs.Questions.{question_of, reply_of};
 
 mod questions;
@@ -15,35 +14,29 @@ use replica::Replica;
 
 // The answer to a question.
 pub fn ask<S: AccountStore, B: OfferBook>(replica: &Replica<S, B>, question: Question) -> Reply
-    ensures { reply_of result ≡ replies (state_of (S.store replica.now.store) (B.book replica.now.book) replica.now.numbers) (question_of question) }
+    ensures { reply_of result ≡ replies replica.now (question_of question) }
 {
     match question {
-        Question::Height => Reply::Number(replica.height() as u64),
+        Question::Height => replica.height().into(),
         Question::Digest => Reply::Digest(replica.digest()),
-        Question::Passed => Reply::Number(replica.passed() as u64),
-        Question::Committed => Reply::Number(replica.committed() as u64),
-        Question::Lapsed => Reply::Number(replica.lapsed() as u64),
-        Question::Rejected => Reply::Number(replica.rejected() as u64),
-        Question::Accounts => Reply::Number(replica.accounts() as u64),
-        Question::AccountCapacity => Reply::Number(replica.account_capacity() as u64),
-        Question::Top => Reply::Number(replica.top() as u64),
-        Question::Offers => Reply::Number(replica.offers() as u64),
-        Question::OfferCapacity => Reply::Number(replica.offer_capacity() as u64),
-        Question::Remainder(asset) => Reply::Number(replica.remainder(asset)),
-        Question::Free(asset) => Reply::Number(replica.free(asset)),
-        Question::Offered(asset) => Reply::Number(replica.offered(asset)),
-        Question::Stands(number) => {
-            if replica.stands(number) {
-                Reply::Number(1)
-            } else {
-                Reply::Number(0)
-            }
-        }
-        Question::Floor(number) => Reply::Number(replica.floor(number) as u64),
-        Question::Balance(number, asset) => Reply::Number(replica.balance(number, asset)),
-        Question::Amount(key) => Reply::Number(replica.amount(key)),
+        Question::Passed => replica.passed().into(),
+        Question::Committed => replica.committed().into(),
+        Question::Lapsed => replica.lapsed().into(),
+        Question::Rejected => replica.rejected().into(),
+        Question::Accounts => replica.accounts().into(),
+        Question::AccountCapacity => replica.account_capacity().into(),
+        Question::Top => replica.top().into(),
+        Question::Offers => replica.offers().into(),
+        Question::OfferCapacity => replica.offer_capacity().into(),
+        Question::Remainder(asset) => replica.remainder(asset).into(),
+        Question::Free(asset) => replica.free(asset).into(),
+        Question::Offered(asset) => replica.offered(asset).into(),
+        Question::Stands(number) => Reply::Number(replica.stands(number) as u64),
+        Question::Floor(number) => replica.floor(number).into(),
+        Question::Balance(number, asset) => replica.balance(number, asset).into(),
+        Question::Amount(key) => replica.amount(key).into(),
         Question::AccountAbove(number) => Reply::Account(replica.next_account(number)),
         Question::OfferAbove(key) => Reply::Offer(replica.next_offer(key)),
-        Question::UpTo(sold, bought, limit) => Reply::Number(replica.up_to(sold, bought, limit)),
+        Question::UpTo(sold, bought, limit) => replica.up_to(sold, bought, limit).into(),
     }
 }

@@ -1,4 +1,7 @@
 // Questions and replies.
+ghost use Rattle.std.specs.Prelude.{◌≡◌};
+ghost use Rattle.asking.specs.declared.questions.Reply.TheVariants.{Number};
+
 use terms::Key;
 
 // The questions about a replica's own numbers, its store and its book.
@@ -34,4 +37,20 @@ pub enum Reply {
     Digest([u8; 32]),
     Account(Option<u32>),
     Offer(Option<Key>),
+}
+
+impl From<u64> for Reply {
+    ghost from_gives = { λ n reply. reply ≡ Number n };
+
+    fn from(n: u64) -> Self {
+        Reply::Number(n)
+    }
+}
+
+impl From<u32> for Reply {
+    ghost from_gives = { λ n reply. reply ≡ Number n };
+
+    fn from(n: u32) -> Self {
+        Reply::Number(n as u64)
+    }
 }

@@ -1,20 +1,17 @@
 -- A run that goes on and stops. Assumes nothing.
-use Rattle.std.proofs.Common.{◌≡◌, ℕ, ◌<◌, ◌≤◌, true, List, [], ◌∷◌, ◌++◌, length, get_or, take, Ok, Err, sym, refl, ap, ◌∙◌, subst, ap₂, arith}
+use Rattle.std.proofs.Common.{◌≡◌, ℕ, ◌<◌, ◌≤◌, List, [], ◌∷◌, ◌++◌, length, get_or, take, Ok, Err, sym, refl, ap, ◌∙◌, subst, ap₂, arith}
 use Rattle.std.proofs.lemmas.List.{length-take}
 use Rattle.terms.specs.declared.Grant.{Grant}
-use Rattle.terms.specs.Holdings.{Store, Book, sound_store, sound_book}
+use Rattle.terms.specs.Holdings.{Store, Book}
 use Rattle.exchange.specs.State.{State, newborn}
-use Rattle.exchange.specs.Commit.{Sound}
 use Rattle.exchange.specs.Life as ex
 use Rattle.exchange.specs.Life.{Life, life, birth, Step, Runs}
 use Rattle.exchange.specs.Life.Question.{height}
 use Rattle.exchange.specs.Life.Event.{ask}
-use Rattle.exchange.proofs.Lasting.{sound_for_life}
-use Rattle.replica.specs.Meaning.{Steady}
 use Rattle.lives.specs.declared.events.Answer.{Answer}
 use Rattle.lives.specs.declared.events.Stop.{Stop}
-use Rattle.lives.specs.declared.events.Stop.TheVariants.{Finished, NotHeld, NoMemory}
-use Rattle.lives.specs.Events.{answer_of}
+use Rattle.lives.specs.declared.events.Stop.TheVariants.{NotHeld, NoMemory}
+use Rattle.lives.specs.Events.{Ending, answer_of}
 use Rattle.lives.specs.Law.{Unheld, Ran}
 use Rattle.lives.specs.Steps.{Holdings, StepOr, Come, Over}
 use Rattle.lives.proofs.Runs.{run_more, run_length, lived}
@@ -27,17 +24,13 @@ come_none st bk us s hs e h a = record {
   held = sym h;
 }
 
-module _ (st : Store) (bk : Book) (p : sound_store st ≡ true) (q : sound_book bk ≡ true) (es : List ex.Event) (us : List ex.Answer) (s : State) (hs : Holdings)
-    (c : Come st bk es us s hs) where
-  steady : Steady s
-  steady f = subst Sound c.state (sound_for_life st bk p q es us c.last c.run (ap (λ x. x.founded) c.state ∙ f))
-
+module _ (st : Store) (bk : Book) (es : List ex.Event) (us : List ex.Answer) (s : State) (hs : Holdings) (c : Come st bk es us s hs) where
   here : c.last ≡ life s hs c.last.grants
   here = ap₂ (λ x y. life x y c.last.grants) c.state c.held
 
   pub come_more : (e : ex.Event) (a : Answer) (t : State) (ks : Holdings) → StepOr s hs e t ks (Ok a) → Come st bk (es ++ e ∷ []) (us ++ answer_of a ∷ []) t ks
   come_more e a t ks w =
-      let z = w steady c.last.grants in
+      let z = w c.last.grants in
       record {
         last = life t ks z.0;
         run = run_more es us (birth st bk) c.last (life t ks z.0) e (answer_of a) c.run (subst (λ x. Step x e (answer_of a) (life t ks z.0)) (sym here) z.1);
@@ -54,17 +47,16 @@ module _ (st : Store) (bk : Book) (es : List ex.Event) (us : List ex.Answer) (i 
   run : i ≤ length es → Runs (birth st bk) (take (length us) es) us c.last
   run h = subst (λ n. Runs (birth st bk) (take n es) us c.last) (sym (many h)) c.run
 
-  pub over_end : i ≤ length es → length es ≤ i → Over st bk es us Finished
+  pub over_end : i ≤ length es → length es ≤ i → Over st bk es us (Ok tt)
   over_end h k = record { last = c.last; run = run h; stopped = omega (arith, many h, h, k) }
 
-  pub over_memory : i ≤ length es → Over st bk es us NoMemory
+  pub over_memory : i ≤ length es → Over st bk es us (Err NoMemory)
   over_memory h = record { last = c.last; run = run h; stopped = tt }
 
   unheld : (e : ex.Event) → ((gs : List Grant) → Unheld (life s hs gs) e) → Unheld c.last e
   unheld e u = subst (λ x. Unheld x e) (sym (ap₂ (λ x y. life x y c.last.grants) c.state c.held)) (u c.last.grants)
 
-  pub over_stop : (e : ex.Event) (t : State) (ks : Holdings) (stop : Stop) → i < length es → e ≡ get_or es i (ask height) → StepOr s hs e t ks (Err stop) → Over st bk es us stop
-  over_stop e t ks Finished h x w = absurd w
+  pub over_stop : (e : ex.Event) (t : State) (ks : Holdings) (stop : Stop) → i < length es → e ≡ get_or es i (ask height) → StepOr s hs e t ks (Err stop) → Over st bk es us (Err stop)
   over_stop e t ks NotHeld h x w = record {
     last = c.last;
     run = run (omega arith);
@@ -73,5 +65,5 @@ module _ (st : Store) (bk : Book) (es : List ex.Event) (us : List ex.Answer) (i 
   over_stop e t ks NoMemory h x w = over_memory (omega arith)
 
 -- a run that is over, as a life
-pub ran : (st : Store) (bk : Book) (es : List ex.Event) (us : List ex.Answer) (stop : Stop) → Over st bk es us stop → Ran st bk es us stop
+pub ran : (st : Store) (bk : Book) (es : List ex.Event) (us : List ex.Answer) (stop : Ending) → Over st bk es us stop → Ran st bk es us stop
 ran st bk es us stop o = record { last = o.last; lived = lived st bk (take (length us) es) us o.last o.run; stopped = o.stopped }

@@ -1,5 +1,4 @@
 pub mod Runs
 pub mod Pairs
 pub mod Stepping
-pub mod Held
 pub mod Going

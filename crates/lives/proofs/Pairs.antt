@@ -1,5 +1,5 @@
 -- Two runs side by side: the law of two replicas. Assumes nothing.
-use Rattle.std.proofs.Common.{◌≡◌, ℕ, zero, suc, ◌<◌, ◌≤◌, true, List, [], ◌∷◌, length, get_or, take, sym, ◌∙◌, subst, subst₂, inl, inr, arith, take_all}
+use Rattle.std.proofs.Common.{◌≡◌, ℕ, zero, suc, ◌<◌, ◌≤◌, true, List, [], ◌∷◌, length, get_or, take, Ok, Err, sym, ◌∙◌, subst, subst₂, inl, inr, arith, take_all}
 use Rattle.std.specs.List.{AllZip}
 use Rattle.std.proofs.lemmas.List.{length-take, get_or-take, take-take}
 use Rattle.std.proofs.lemmas.List.Elements.{AllZip-get_or, length_all_zip}
@@ -10,9 +10,8 @@ use Rattle.exchange.specs.Life.Question.{height}
 use Rattle.exchange.specs.Life.Event.{found, check, fill, commit, reject, ask}
 use Rattle.exchange.proofs.Agree.{Alike, lives_alike, born_alike, held_first, held_second}
 use Rattle.replica.proofs.Foundings.{nothing}
-use Rattle.lives.specs.declared.events.Stop.{Stop}
-use Rattle.lives.specs.declared.events.Stop.TheVariants.{Finished, NotHeld, NoMemory}
-use Rattle.lives.specs.Events.{whole}
+use Rattle.lives.specs.declared.events.Stop.TheVariants.{NotHeld, NoMemory}
+use Rattle.lives.specs.Events.{Ending, whole}
 use Rattle.lives.specs.Law.{Lives, Unheld, Stopped, Ran, Law}
 use Rattle.lives.proofs.Runs.{run_length, run_take, run_at}
 
@@ -133,10 +132,10 @@ forget (e ∷ es) [] l m p = absurd p
 forget (e ∷ es) (u ∷ us) l m (k, s, _, _, p) = (k, s, forget es us k m p)
 
 -- a run that was not cut short went as far as it could
-pub went_far : (es : List Event) (us : List Answer) (l : Life) (stop : Stop) → whole stop ≡ true → Stopped es us l stop → Far es us l
-went_far es us l Finished w e = λ h. absurd (omega (arith, h, e))
-went_far es us l NotHeld w e = λ h. e.1
-went_far es us l NoMemory w e = absurd (let z : ◌≡◌ {A = ℕ} 0 1 = cc in omega (arith, z))
+pub went_far : (es : List Event) (us : List Answer) (l : Life) (stop : Ending) → whole stop ≡ true → Stopped es us l stop → Far es us l
+went_far es us l (Ok _) w e = λ h. absurd (omega (arith, h, e))
+went_far es us l (Err NotHeld) w e = λ h. e.1
+went_far es us l (Err NoMemory) w e = absurd (let z : ◌≡◌ {A = ℕ} 0 1 = cc in omega (arith, z))
 
 empty_store : (s t : Store) → length s.accounts ≡ 0 → length t.accounts ≡ 0 → t.capacity ≡ s.capacity → t.top ≡ s.top → t ≡ s
 empty_store s t a b c d = λ i. record { capacity = c i; top = d i; accounts = (nothing t.accounts b ∙ sym (nothing s.accounts a)) i }
@@ -144,7 +143,7 @@ empty_store s t a b c d = λ i. record { capacity = c i; top = d i; accounts = (
 empty_book : (s t : Book) → length s.offers ≡ 0 → length t.offers ≡ 0 → t.capacity ≡ s.capacity → t ≡ s
 empty_book s t a b c = λ i. record { capacity = c i; offers = (nothing t.offers b ∙ sym (nothing s.offers a)) i }
 
-pub law : (st : Store) (bk : Book) (st' : Store) (bk' : Book) (es fs : List Event) (us vs : List Answer) (stop stop' : Stop)
+pub law : (st : Store) (bk : Book) (st' : Store) (bk' : Book) (es fs : List Event) (us vs : List Answer) (stop stop' : Ending)
     → Ran st bk es us stop → Ran st' bk' fs vs stop' → Law st bk st' bk' es fs us vs stop stop'
 law st bk st' bk' es fs us vs stop stop' a b = record {
   first = a;

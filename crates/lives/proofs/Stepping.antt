@@ -5,16 +5,12 @@ use Rattle.terms.specs.declared.Grant.{Grant}
 use Rattle.terms.specs.declared.Key.{Key}
 use Rattle.blocks.specs.Readable.{Block}
 use Rattle.exchange.specs.State.{State}
-use Rattle.exchange.specs.Life.{Answer, life, Step, or_refused, fill_of, grants_after, RulesCheck, AfterCheck, after_reject}
-use Rattle.exchange.specs.Life.Event.{found, check, fill, commit, reject}
-use Rattle.exchange.specs.Life.Answer.{done, refused, checked, filled}
-use Rattle.replica.specs.Calls.{plainly, fills_of, FoundCall, CheckCall, FillCall, CommitCall}
+use Rattle.exchange.specs.Life.{Answer, life, Step, or_refused, fill_of, grants_after, after_reject}
+use Rattle.exchange.specs.Life.Event.{found, fill, reject}
+use Rattle.exchange.specs.Life.Answer.{done, refused, filled}
+use Rattle.replica.specs.Calls.{plainly, fills_of, FoundCall, FillCall}
+use Rattle.lives.specs.Events.{spoken}
 use Rattle.lives.specs.Steps.{Holdings}
-
--- the answer where a call is done, or its fault
-abbrev pub spoken : Answer → Result (Unit {0}) Fault → Answer
-spoken a (Ok _) = a
-spoken a (Err f) = refused f
 
 abbrev pub told_fill : Result (ℕ × ℕ) Fault → Answer
 told_fill (Ok p) = filled p.0 p.1
@@ -28,33 +24,14 @@ fill_is : (s : State) (k : Key) (x : Result Block Fault) → told_fill (fills_of
 fill_is s k (Ok b) = refl
 fill_is s k (Err f) = refl
 
-never : (f : Fault) → ◌≡◌ {A = Result (Unit {0}) Fault} (Ok tt) (Err f) → ⊥
-never f e = let z : ◌≡◌ {A = ℕ} 0 1 = cc in omega (arith, z)
-
 module _ (s t : State) (hs ks : Holdings) (gs : List Grant) (bs : List ℕ) where
   pub found_step : (r : Result (Unit {0}) Fault) → FoundCall s bs r t → (fs : List Grant) × Step (life s hs gs) (found bs) (spoken done r) (life t hs fs)
   found_step r c =
       (grants_after (life s hs gs) c.ruling, (c.ruling, c.rules, ap (spoken done) c.answer ∙ spoken_is done c.ruling, c.after, refl, refl))
 
-  passed : (x : Result Block Fault) → RulesCheck s bs x → ◌≡◌ {A = Result (Unit {0}) Fault} (Ok tt) (plainly x) → AfterCheck s x t → ks ≡ hs ++ Some bs ∷ []
-      → (n : ℕ) → n ≡ length hs → (fs : List Grant) × Step (life s hs gs) (check bs) (checked n) (life t ks fs)
-  passed (Ok b) p e a k n many = (gs, (Ok b, p, ap checked many, a, k, refl))
-  passed (Err f) p e a k n many = absurd (never f e)
-
-  pub check_step : CheckCall s bs (Ok tt) t → ks ≡ hs ++ Some bs ∷ [] → (n : ℕ) → n ≡ length hs
-      → (fs : List Grant) × Step (life s hs gs) (check bs) (checked n) (life t ks fs)
-  check_step c k n many = passed c.ruling c.rules c.answer c.after k n many
-
   module _ (i : ℕ) (held : get_or hs i None ≡ Some bs) where
-    pub commit_step : (r : Result (Unit {0}) Fault) → CommitCall s bs r t → ks ≡ set hs i None → (fs : List Grant) × Step (life s hs gs) (commit i) (spoken done r) (life t ks fs)
-    commit_step r c k = (gs, (bs, held, (c.ruling, c.rules, ap (spoken done) c.answer ∙ spoken_is done c.ruling, c.after, k, refl)))
-
     pub reject_step : t ≡ after_reject s → ks ≡ set hs i None → (fs : List Grant) × Step (life s hs gs) (reject i) done (life t ks fs)
     reject_step e k = (gs, (bs, held, refl, ap₂ (λ x y. life x y gs) e k))
 
     pub fill_step : (k : Key) (r : Result (ℕ × ℕ) Fault) → FillCall s bs k r → (fs : List Grant) × Step (life s hs gs) (fill i k) (told_fill r) (life s hs fs)
     fill_step k r c = (gs, (bs, held, (c.ruling, c.rules, ap told_fill c.answer ∙ fill_is s k c.ruling, refl)))
-
--- nothing is held where there is none
-pub not_held : (hs : Holdings) (i : ℕ) → get_or hs i None ≡ None → (bs : List ℕ) → get_or hs i None ≡ Some bs → ⊥
-not_held hs i e bs h = let z : ◌≡◌ {A = ℕ} 0 1 = cc in omega (arith, z)

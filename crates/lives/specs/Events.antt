@@ -1,5 +1,6 @@
--- What the events, answers and held blocks of the code say, in the words of the rules. Assumes nothing.
-use Rattle.std.specs.Prelude.{ℕ, Bool, true, false, List, map, Some, None, Option}
+-- What the events and answers of the code say, in the words of the rules. Assumes nothing.
+use Rattle.std.specs.Prelude.{Bool, true, false, Ok, Err, Result}
+use Rattle.terms.specs.declared.Fault.{Fault}
 use Rattle.exchange.specs.Life as ex
 use Rattle.asking.specs.Questions.{question_of, reply_of}
 use Rattle.lives.specs.declared.events.Event.{Event}
@@ -7,9 +8,7 @@ use Rattle.lives.specs.declared.events.Event.TheVariants.{Found, Check, Fill, Co
 use Rattle.lives.specs.declared.events.Answer.{Answer}
 use Rattle.lives.specs.declared.events.Answer.TheVariants.{Done, Refused, Checked, Filled, Told}
 use Rattle.lives.specs.declared.events.Stop.{Stop}
-use Rattle.lives.specs.declared.events.Stop.TheVariants.{Finished, NotHeld, NoMemory}
-use Rattle.lives.specs.declared.slots.Slot.{Slot}
-use Rattle.lives.specs.declared.slots.Slot.TheVariants.{Held, Spent}
+use Rattle.lives.specs.declared.events.Stop.TheVariants.{NotHeld, NoMemory}
 
 abbrev pub event_of : Event → ex.Event
 event_of (Found bytes) = ex.Event.found bytes.now
@@ -26,16 +25,17 @@ answer_of (Checked i) = ex.Answer.checked i
 answer_of (Filled n p) = ex.Answer.filled n p
 answer_of (Told r) = ex.Answer.told (reply_of r)
 
--- the bytes of a block that is held, or none where it is spent
-abbrev pub held_in : Slot → Option (List ℕ)
-held_in (Held c) = Some c.bytes.now
-held_in Spent = None
+-- the answer where a call is done, or its fault
+abbrev pub spoken : ex.Answer → Result (Unit {0}) Fault → ex.Answer
+spoken a (Ok _) = a
+spoken a (Err f) = ex.Answer.refused f
 
-abbrev pub held_of : List Slot → List (Option (List ℕ))
-held_of slots = map held_in slots
+-- how a run ends: all events were answered, or it stopped
+abbrev pub Ending : Type 0
+Ending = Result (Unit {0}) Stop
 
 -- the run was not cut short for want of memory
-abbrev pub whole : Stop → Bool
-whole Finished = true
-whole NotHeld = true
-whole NoMemory = false
+abbrev pub whole : Ending → Bool
+whole (Ok _) = true
+whole (Err NotHeld) = true
+whole (Err NoMemory) = false

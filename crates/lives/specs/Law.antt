@@ -1,5 +1,5 @@
 -- The law of two replicas, over whole runs. Assumes nothing.
-use Rattle.std.specs.Prelude.{◌≡◌, ℕ, ◌+◌, ◌<◌, true, List, [], ◌∷◌, length, take, is_some, count_by, slice_index_or}
+use Rattle.std.specs.Prelude.{◌≡◌, ℕ, ◌+◌, ◌<◌, true, List, [], ◌∷◌, length, take, Ok, Err, is_some, count_by, slice_index_or}
 use Rattle.std.specs.List.{AllZip}
 use Rattle.terms.specs.declared.Key.{Key}
 use Rattle.terms.specs.Holdings.{Store, Book, free_of, offered_of}
@@ -13,9 +13,8 @@ use Rattle.exchange.specs.Life.Question.{height}
 use Rattle.exchange.specs.Life.Event.{found, check, fill, commit, reject, ask}
 use Rattle.exchange.specs.Life.Answer.{done, filled}
 use Rattle.exchange.specs.Claims.{Served}
-use Rattle.lives.specs.declared.events.Stop.{Stop}
-use Rattle.lives.specs.declared.events.Stop.TheVariants.{Finished, NotHeld, NoMemory}
-use Rattle.lives.specs.Events.{whole}
+use Rattle.lives.specs.declared.events.Stop.TheVariants.{NotHeld, NoMemory}
+use Rattle.lives.specs.Events.{Ending, whole}
 
 -- What holds after every event: once founded, the free balances, the offered amounts and the remainder of each asset add
 -- up to the amount founded; and each check that passed is committed, lapsed, rejected or held still.
@@ -50,14 +49,14 @@ Unheld l (commit i) = (bs : List ℕ) → Holds l i bs → ⊥
 Unheld l (reject i) = (bs : List ℕ) → Holds l i bs → ⊥
 Unheld l (ask q) = ⊥
 
--- How a run stopped, of which the answers are us and the last life is l.
-abbrev pub Stopped : List Event → List Answer → Life → Stop → Type 0
-Stopped es us l Finished = length us ≡ length es
-Stopped es us l NotHeld = (length us < length es) × Unheld l (slice_index_or es (length us) (ask height))
-Stopped es us l NoMemory = Unit {0}
+-- How a run ended, of which the answers are us and the last life is l.
+abbrev pub Stopped : List Event → List Answer → Life → Ending → Type 0
+Stopped es us l (Ok _) = length us ≡ length es
+Stopped es us l (Err NotHeld) = (length us < length es) × Unheld l (slice_index_or es (length us) (ask height))
+Stopped es us l (Err NoMemory) = Unit {0}
 
 -- One replica's run, from its store and its book on: its answers are those of a life over the first events, one for each.
-pub record Ran (st : Store) (bk : Book) (es : List Event) (us : List Answer) (stop : Stop) : Type 0 where
+pub record Ran (st : Store) (bk : Book) (es : List Event) (us : List Answer) (stop : Ending) : Type 0 where
   pub last : Life
   pub lived : Lives (birth st bk) (take (length us) es) us last
   pub stopped : Stopped es us last stop
@@ -71,14 +70,14 @@ pub record BeginAlike (st : Store) (bk : Book) (st' : Store) (bk' : Book) : Type
 
 -- They agree: equal answers to every event that both answered; and, where neither ran out of memory, equal answers to every
 -- event, and equal states at the end.
-pub record Agreement (us vs : List Answer) (l m : Life) (stop stop' : Stop) : Type 0 where
+pub record Agreement (us vs : List Answer) (l m : Life) (stop stop' : Ending) : Type 0 where
   pub equal : take (length vs) us ≡ take (length us) vs
   pub all : whole stop ≡ true → whole stop' ≡ true → (us ≡ vs) × (l.state ≡ m.state)
 
 -- The law of two replicas, of whatever make. Each lives a life in which, after each event, all adds up, and in which each
 -- fill is a good one. Where both begin alike, and the same events come to both but for the order of transactions within a
 -- block and of grants within a founding, they agree.
-pub record Law (st : Store) (bk : Book) (st' : Store) (bk' : Book) (es fs : List Event) (us vs : List Answer) (stop stop' : Stop) : Type 0 where
+pub record Law (st : Store) (bk : Book) (st' : Store) (bk' : Book) (es fs : List Event) (us vs : List Answer) (stop stop' : Ending) : Type 0 where
   pub first : Ran st bk es us stop
   pub second : Ran st' bk' fs vs stop'
   pub agree : BeginAlike st bk st' bk' → AllZip Fair es fs → Agreement us vs first.last second.last stop stop'

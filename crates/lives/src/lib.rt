@@ -4,7 +4,6 @@
 
 mod events;
 mod run;
-mod slots;
 
 pub use events::{Answer, Event, Stop};
 pub use run::{Pair, Record, live, live_twice};

@@ -1,19 +1,15 @@
 // One replica run over a list of events, with the checked blocks that it holds. Assumes nothing: a run stops at an event
 // that names a block that is not held, and where memory for the answers or the held blocks runs out. No memory is asked
 // for inside the replica.
-ghost use Rattle.std.specs.Prelude.{◌≡◌, ℕ, ◌<◌, true, List, [], map, IfSome, Some, None, Ok, Err, vec_len, Option, MatchResult, slice_index_or, slice_set};
-ghost use Rattle.terms.specs.declared.Grant.{Grant};
-ghost use Rattle.terms.specs.Holdings.{Store, Book, sound_store, sound_book};
+ghost use Rattle.std.specs.Prelude.{◌≡◌, [], map, slice_index_or, slice_set, None, Ok};
+ghost use Rattle.terms.specs.Holdings.{Store, Book};
 ghost use Rattle.exchange.specs.State.{newborn};
-ghost use Rattle.exchange.specs.Life.{life, Step};
 ghost use Rattle.exchange.specs.Life.Event.{found, check, fill, commit, reject};
-ghost use Rattle.replica.specs.Meaning.{state_of, Steady};
-ghost use Rattle.lives.specs.Events.{event_of, answer_of, held_of};
+ghost use Rattle.lives.specs.Events.{event_of, answer_of};
 ghost use Rattle.lives.specs.Law.{Ran, Law};
-ghost use Rattle.lives.specs.Steps.{NotTaken, StepOr, Over};
+ghost use Rattle.lives.specs.Steps.{StepOr, Over};
 
 use crate::events::{Answer, Event, Stop};
-use crate::slots::Slot;
 use accounts::AccountStore;
 use asking::ask;
 use offers::OfferBook;
@@ -21,180 +17,127 @@ use replica::{CheckedBlock, Replica};
 use std::alloc::Global;
 use terms::Key;
 
-// A founding.
-fn found_on<S: AccountStore, B: OfferBook>(replica: &mut Replica<S, B>, bytes: &[u8]) -> Answer
-    ensures { (hs : List (Option (List ℕ))) → StepOr (state_of (S.store replica.old.store) (B.book replica.old.book) replica.old.numbers) hs (found bytes.now) (state_of (S.store replica.new.store) (B.book replica.new.book) replica.new.numbers) hs (Ok result) }
-{
-    match replica.found(bytes) {
-        Ok(()) => Answer::Done,
-        Err(fault) => Answer::Refused(fault),
-    }
+// A replica and the checked blocks that it has let pass, in the order of their checks: None where one is spent.
+struct Run<'a, S: AccountStore, B: OfferBook> {
+    replica: Replica<S, B>,
+    held: Vec<Option<CheckedBlock<'a>>>,
 }
 
-// A check. A block that passes is held under the number of those before it.
-fn check_on<'a, S: AccountStore, B: OfferBook>(
-    replica: &mut Replica<S, B>,
-    held: &mut Vec<Slot<'a>>,
-    bytes: &'a [u8],
-) -> Result<Answer, Stop>
-    ensures { StepOr (state_of (S.store replica.old.store) (B.book replica.old.book) replica.old.numbers) (held_of held.old.items) (check bytes.now) (state_of (S.store replica.new.store) (B.book replica.new.book) replica.new.numbers) (held_of held.new.items) result }
-{
-    let number = held.len();
-    match replica.check(bytes) {
-        Err(fault) => Ok(Answer::Refused(fault)),
-        Ok(block) => match held.push(Slot::Held(block)) {
-            Ok(()) => Ok(Answer::Checked(number)),
-            Err(back) => {
-                spend(replica, back.value);
-                Err(Stop::NoMemory)
-            }
-        },
+impl<'a, S: AccountStore + Drop, B: OfferBook + Drop> Run<'a, S, B> {
+    fn found(&mut self, bytes: &[u8]) -> Answer
+        ensures { StepOr self.old.replica self.old.held.items (found bytes.now) self.new.replica self.new.held.items (Ok result) }
+    {
+        self.replica.found(bytes).into()
     }
-}
 
-// Rejects what a slot holds, if anything.
-fn spend<'a, S: AccountStore, B: OfferBook>(replica: &mut Replica<S, B>, slot: Slot<'a>) {
-    match slot {
-        Slot::Held(block) => block.reject(replica),
-        Slot::Spent => {}
-    }
-}
-
-// Takes out what lies at a place, which is marked as spent then; None where there is no memory to do so.
-fn empty<'a>(held: &mut Vec<Slot<'a>>, block: usize) -> Option<Slot<'a>>
-    requires { block < vec_len held.old }
-    ensures { IfSome result (λ s. (s ≡ slice_index_or held.old.items block s) × (held.new.items ≡ slice_set held.old.items block Slot.Spent)) }
-{
-    match held.push(Slot::Spent) {
-        Ok(()) => Some(held.swap_remove(block)),
-        Err(back) => match back.value {
-            Slot::Spent => None,
-            Slot::Held(checked) => Some(Slot::Held(checked)),
-        },
-    }
-}
-
-// Takes out the checked block at a place, which is marked as spent then.
-fn take<'a>(held: &mut Vec<Slot<'a>>, block: usize) -> Result<CheckedBlock<'a>, Stop>
-    ensures { MatchResult result (λ c. (slice_index_or (held_of held.old.items) block None ≡ Some c.bytes.now) × (held_of held.new.items ≡ slice_set (held_of held.old.items) block None)) (NotTaken (held_of held.old.items) block) }
-{
-    if block >= held.len() {
-        return Err(Stop::NotHeld);
-    }
-    let Some(slot) = empty(held, block) else {
-        return Err(Stop::NoMemory);
-    };
-    match slot {
-        Slot::Held(checked) => Ok(checked),
-        Slot::Spent => Err(Stop::NotHeld),
-    }
-}
-
-// A commit.
-fn commit_at<'a, S: AccountStore, B: OfferBook>(
-    replica: &mut Replica<S, B>,
-    held: &mut Vec<Slot<'a>>,
-    block: usize,
-) -> Result<Answer, Stop>
-    ensures { StepOr (state_of (S.store replica.old.store) (B.book replica.old.book) replica.old.numbers) (held_of held.old.items) (commit block) (state_of (S.store replica.new.store) (B.book replica.new.book) replica.new.numbers) (held_of held.new.items) result }
-{
-    match take(held, block)?.commit(replica) {
-        Ok(()) => Ok(Answer::Done),
-        Err(fault) => Ok(Answer::Refused(fault)),
-    }
-}
-
-// A reject.
-fn reject_at<'a, S: AccountStore, B: OfferBook>(
-    replica: &mut Replica<S, B>,
-    held: &mut Vec<Slot<'a>>,
-    block: usize,
-) -> Result<Answer, Stop>
-    ensures { StepOr (state_of (S.store replica.old.store) (B.book replica.old.book) replica.old.numbers) (held_of held.old.items) (reject block) (state_of (S.store replica.new.store) (B.book replica.new.book) replica.new.numbers) (held_of held.new.items) result }
-{
-    take(held, block)?.reject(replica);
-    Ok(Answer::Done)
-}
-
-// A fill.
-fn fill_at<'a, S: AccountStore, B: OfferBook>(
-    replica: &Replica<S, B>,
-    held: &Vec<Slot<'a>>,
-    block: usize,
-    key: Key,
-) -> Result<Answer, Stop>
-    ensures { StepOr (state_of (S.store replica.now.store) (B.book replica.now.book) replica.now.numbers) (held_of held.now.items) (fill block key) (state_of (S.store replica.now.store) (B.book replica.now.book) replica.now.numbers) (held_of held.now.items) result }
-{
-    if block >= held.len() {
-        return Err(Stop::NotHeld);
-    }
-    match &held[block] {
-        Slot::Spent => Err(Stop::NotHeld),
-        Slot::Held(checked) => match checked.fill(replica, key) {
-            Ok((sold, paid)) => Ok(Answer::Filled(sold, paid)),
+    // A block that passes is held under the number of those before it.
+    fn check(&mut self, bytes: &'a [u8]) -> Result<Answer, Stop>
+        ensures { StepOr self.old.replica self.old.held.items (check bytes.now) self.new.replica self.new.held.items result }
+    {
+        let number = self.held.len();
+        match self.replica.check(bytes) {
             Err(fault) => Ok(Answer::Refused(fault)),
-        },
-    }
-}
-
-// One event.
-fn step<'a, S: AccountStore, B: OfferBook>(
-    replica: &mut Replica<S, B>,
-    held: &mut Vec<Slot<'a>>,
-    event: Event<'a>,
-) -> Result<Answer, Stop>
-    ensures { StepOr (state_of (S.store replica.old.store) (B.book replica.old.book) replica.old.numbers) (held_of held.old.items) (event_of event.entry) (state_of (S.store replica.new.store) (B.book replica.new.book) replica.new.numbers) (held_of held.new.items) result }
-{
-    match event {
-        Event::Found(bytes) => Ok(found_on(replica, bytes)),
-        Event::Check(bytes) => check_on(replica, held, bytes),
-        Event::Fill(block, key) => fill_at(replica, held, block, key),
-        Event::Commit(block) => commit_at(replica, held, block),
-        Event::Reject(block) => reject_at(replica, held, block),
-        Event::Ask(question) => Ok(Answer::Told(ask(replica, question))),
-    }
-}
-
-// Runs the events in turn, and adds an answer for each.
-fn go_on<'a, S: AccountStore, B: OfferBook>(
-    replica: &mut Replica<S, B>,
-    held: &mut Vec<Slot<'a>>,
-    events: &[Event<'a>],
-    answers: &mut Vec<Answer>,
-) -> Stop
-    ensures { (st : Store) (bk : Book) → sound_store st ≡ true → sound_book bk ≡ true
-        → state_of (S.store replica.old.store) (B.book replica.old.book) replica.old.numbers ≡ newborn st bk
-        → held.old.items ≡ [] → answers.old.items ≡ []
-        → Over st bk (map event_of events.now) (map answer_of answers.new.items) result }
-{
-    for event in events {
-        match step(replica, held, *event) {
-            Err(stop) => return stop,
-            Ok(answer) => match answers.push(answer) {
-                Ok(()) => {}
-                Err(_) => return Stop::NoMemory,
+            Ok(block) => match self.held.push(Some(block)) {
+                Ok(()) => Ok(Answer::Checked(number)),
+                Err(back) => {
+                    reject_if_held(&mut self.replica, back.value);
+                    Err(Stop::NoMemory)
+                }
             },
         }
     }
-    Stop::Finished
-}
 
-// Rejects what is still held.
-fn reject_all<'a, S: AccountStore, B: OfferBook>(
-    replica: &mut Replica<S, B>,
-    mut held: Vec<Slot<'a>>,
-) {
-    while let Some(slot) = held.pop() {
-        spend(replica, slot);
+    fn fill(&self, block: usize, key: Key) -> Result<Answer, Stop>
+        ensures { StepOr self.now.replica self.now.held.items (fill block key) self.now.replica self.now.held.items result }
+    {
+        let Some(Some(checked)) = self.held.get(block) else {
+            return Err(Stop::NotHeld);
+        };
+        match checked.fill(&self.replica, key) {
+            Ok((sold, paid)) => Ok(Answer::Filled(sold, paid)),
+            Err(fault) => Ok(Answer::Refused(fault)),
+        }
     }
-    held.destroy_empty();
+
+    fn commit(&mut self, block: usize) -> Result<Answer, Stop>
+        ensures { StepOr self.old.replica self.old.held.items (commit block) self.new.replica self.new.held.items result }
+    {
+        let checked = take(&mut self.held, block).ok_or(Stop::NotHeld)?;
+        Ok(checked.commit(&mut self.replica).into())
+    }
+
+    fn reject(&mut self, block: usize) -> Result<Answer, Stop>
+        ensures { StepOr self.old.replica self.old.held.items (reject block) self.new.replica self.new.held.items result }
+    {
+        let checked = take(&mut self.held, block).ok_or(Stop::NotHeld)?;
+        checked.reject(&mut self.replica);
+        Ok(Answer::Done)
+    }
+
+    // One event.
+    fn step(&mut self, event: Event<'a>) -> Result<Answer, Stop>
+        ensures { StepOr self.old.replica self.old.held.items (event_of event.entry) self.new.replica self.new.held.items result }
+    {
+        match event {
+            Event::Found(bytes) => Ok(self.found(bytes)),
+            Event::Check(bytes) => self.check(bytes),
+            Event::Fill(block, key) => self.fill(block, key),
+            Event::Commit(block) => self.commit(block),
+            Event::Reject(block) => self.reject(block),
+            Event::Ask(question) => Ok(Answer::Told(ask(&self.replica, question))),
+        }
+    }
+
+    // Runs the events in turn, and adds an answer for each.
+    fn go_on(&mut self, events: &[Event<'a>], answers: &mut Vec<Answer>) -> Result<(), Stop>
+        ensures { (st : Store) (bk : Book)
+            → self.old.replica ≡ newborn st bk → self.old.held.items ≡ [] → answers.old.items ≡ []
+            → Over st bk (map event_of events.now) (map answer_of answers.new.items) result }
+    {
+        for event in events {
+            let answer = self.step(*event)?;
+            answers.push(answer)?;
+        }
+        Ok(())
+    }
+
+    // Rejects what is still held.
+    fn finish(self) {
+        let Run {
+            mut replica,
+            mut held,
+        } = self;
+        // a `for` over the blocks would have to be able to let them go
+        while let Some(slot) = held.pop() {
+            reject_if_held(&mut replica, slot);
+        }
+        held.destroy_empty();
+    }
 }
 
-// The answers of a run, and why it stopped.
+// Takes out the checked block at a place, if one is held there.
+fn take<'a>(held: &mut Vec<Option<CheckedBlock<'a>>>, block: usize) -> Option<CheckedBlock<'a>>
+    ensures taken { result ≡ slice_index_or held.old.items block None }
+    ensures left { held.new.items ≡ slice_set held.old.items block None }
+{
+    held.get_mut(block)?.take()
+}
+
+// Rejects the checked block, if there is one.
+fn reject_if_held<S: AccountStore, B: OfferBook>(
+    replica: &mut Replica<S, B>,
+    slot: Option<CheckedBlock<'_>>,
+) {
+    if let Some(block) = slot {
+        block.reject(replica);
+    }
+}
+
+// The answers of a run, and whether it stopped before the last event.
 #[derive(Drop)]
 pub struct Record {
     pub answers: Vec<Answer>,
-    pub stop: Stop,
+    pub stop: Result<(), Stop>,
 }
 
 // Puts a replica together from a store and a book, and runs the events on it. What it still holds at the end is rejected.
@@ -206,11 +149,13 @@ pub fn live<'a, S: AccountStore + Drop, B: OfferBook + Drop>(
 ) -> Record
     ensures { Ran (S.store store) (B.book book) (map event_of events.now) (map answer_of result.answers.items) result.stop }
 {
-    let mut replica = Replica::new(store, book);
-    let mut held = Vec::new(heap);
+    let mut run = Run {
+        replica: Replica::new(store, book),
+        held: Vec::new(heap),
+    };
     let mut answers = Vec::new(heap);
-    let stop = go_on(&mut replica, &mut held, events, &mut answers);
-    reject_all(&mut replica, held);
+    let stop = run.go_on(events, &mut answers);
+    run.finish();
     Record { answers, stop }
 }
 

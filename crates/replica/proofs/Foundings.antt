@@ -1,11 +1,18 @@
 -- A founding without fault makes the state that the rules say. Assumes nothing.
-use Rattle.std.proofs.Common.{◌≡◌, ℕ, true, List, [], ◌∷◌, length, get_or, replicate, refl, ap, ◌∙◌, arith}
+use Rattle.std.proofs.Common.{◌≡◌, ℕ, true, None, List, [], ◌∷◌, length, get_or, replicate, refl, ap, ◌∙◌, arith}
+use Rattle.std.proofs.lemmas.Bool.{and_parts}
 use Rattle.terms.specs.declared.Account.{Account}
 use Rattle.terms.specs.declared.Grant.{Grant}
 use Rattle.terms.specs.Order.{under, name}
+use Rattle.terms.specs.Ranges.{every, fit_grant}
 use Rattle.terms.specs.Holdings.{Store, Book, sound_store, sound_book}
+use Rattle.blocks.specs.Readable.{Founds}
+use Rattle.blocks.proofs.Laws.{founds_fits}
 use Rattle.exchange.specs.State.{State, no_counts}
-use Rattle.exchange.specs.Commit.{Founded, digest_of}
+use Rattle.exchange.specs.Faults.{FoundingVerdict}
+use Rattle.exchange.specs.Commit.{Sound, Founded, digest_of}
+use Rattle.exchange.proofs.Fit.{all_from}
+use Rattle.exchange.proofs.Lasting.{founded_sound}
 use Rattle.clearing.proofs.Committing.{in_order}
 use Rattle.founding.specs.Granting.{GrantedAll}
 
@@ -45,3 +52,9 @@ made s gs st d none empty ok fine all e =
       digest = e;
       counts = refl;
     }
+
+-- and it is sound
+pub sound : (s : State) (bs : List ℕ) (gs : List Grant) (t : State) → sound_store s.store ≡ true → sound_book s.book ≡ true
+    → Founds bs gs → FoundingVerdict s.store gs None → Founded s gs t → Sound t
+sound s bs gs t st bk reads clean w =
+    founded_sound s gs (all_from fit_grant gs (and_parts (every fit_grant gs) _ (founds_fits bs gs reads)).0) clean st bk t w

@@ -1,4 +1,5 @@
 -- What a replica means: the state of the exchange that its store, its book and its own numbers make up. Assumes nothing.
+-- As many blocks have been committed as the height says.
 use Rattle.std.specs.Prelude.{◌≡◌, true}
 use Rattle.terms.specs.Holdings.{Store, Book}
 use Rattle.exchange.specs.State.{State, Own, Counts}
@@ -9,12 +10,11 @@ abbrev pub own_of : Numbers → Own
 own_of n = record { height = n.height; digest = n.digest; remainders = n.remainders }
 
 abbrev pub counts_of : Numbers → Counts
-counts_of n = record { passed = n.passed; committed = n.committed; lapsed = n.lapsed; rejected = n.rejected }
+counts_of n = record { passed = n.passed; committed = n.height; lapsed = n.lapsed; rejected = n.rejected }
 
 abbrev pub state_of : Store → Book → Numbers → State
 state_of st bk n = record { founded = n.founded; store = st; book = bk; own = own_of n; counts = counts_of n }
 
--- What holds of a replica between two calls: once founded, its state is sound. A new replica is not founded, and every call
--- keeps this; it can't stand in the replica's type, since that knows nothing of the meaning of its store and its book.
+-- What holds of every replica, as the invariant of its type: once founded, its state is sound.
 abbrev pub Steady : State → Type 0
 Steady s = s.founded ≡ true → Sound s

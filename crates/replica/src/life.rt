@@ -3,10 +3,9 @@
 ghost use Rattle.std.specs.Prelude.{◌≡◌, true, IfOk, None, Ok, Err};
 ghost use Rattle.exchange.specs.State.{newborn};
 ghost use Rattle.exchange.specs.Faults.{Verdict};
-ghost use Rattle.exchange.specs.Commit.{Sound, Committed};
+ghost use Rattle.exchange.specs.Commit.{Committed};
 ghost use Rattle.exchange.specs.Life.{Rules, after_reject};
 ghost use Rattle.blocks.specs.Decoded.{block_of};
-ghost use Rattle.replica.specs.Meaning.{state_of, Steady};
 ghost use Rattle.replica.specs.Calls.{says, plainly, FoundCall, CheckCall, FillCall, CommitCall};
 
 use crate::numbers::Numbers;
@@ -18,6 +17,7 @@ use founding::{grant_all, judge_founding};
 use judging::judge;
 use offers::OfferBook;
 use state_digest::state_digest;
+use std::marker::Model;
 use terms::{Cause, Fault, Key};
 
 // A replica holds its store and its book, of whichever make.
@@ -28,31 +28,35 @@ pub struct Replica<S: AccountStore, B: OfferBook> {
     pub(crate) numbers: Numbers,
 }
 
+// It means the state of the exchange that these make up, which is sound from the founding on.
+impl<S: AccountStore, B: OfferBook> Model for Replica<S, B> {
+    ghost use Rattle.exchange.specs.State.{State};
+
+    ghost Value = { State };
+
+    ghost use Rattle.replica.specs.Meaning.{state_of, Steady};
+
+    ghost view = { λ r. state_of (S.store r.store) (B.book r.book) r.numbers };
+
+    ghost invariant = { λ r. Steady (state_of (S.store r.store) (B.book r.book) r.numbers) };
+}
+
 impl<S: AccountStore, B: OfferBook> Replica<S, B> {
     // A replica that is not founded yet: its numbers and its digest are zeros.
     pub fn new(store: S, book: B) -> Self
-        ensures { state_of (S.store result.store) (B.book result.book) result.numbers ≡ newborn (S.store store) (B.book book) }
+        ensures { result ≡ newborn (S.store store) (B.book book) }
     {
         Replica {
             store,
             book,
-            numbers: Numbers {
-                founded: false,
-                height: 0,
-                digest: [0; 32],
-                remainders: [0; 8],
-                passed: 0,
-                committed: 0,
-                lapsed: 0,
-                rejected: 0,
-            },
+            numbers: Numbers::ZERO,
         }
     }
 
     // Opens the accounts of a founding, with their balances. Refuses with 25, founded already; then 22, store or book not
     // empty; then what the bytes have (1 to 7), and the least of 15, 19 and 23. A refusal changes nothing.
     pub fn found(&mut self, bytes: &[u8]) -> Result<(), Fault>
-        ensures { FoundCall (state_of (S.store self.old.store) (B.book self.old.book) self.old.numbers) bytes.now result (state_of (S.store self.new.store) (B.book self.new.book) self.new.numbers) }
+        ensures { FoundCall self.old bytes.now result self.new }
     {
         if self.numbers.founded {
             return Err(Cause::FoundedAlready.into());
@@ -66,20 +70,15 @@ impl<S: AccountStore, B: OfferBook> Replica<S, B> {
         let digest = state_digest(&self.store, &self.book, 0, &[0; 8]);
         self.numbers = Numbers {
             founded: true,
-            height: 0,
             digest,
-            remainders: [0; 8],
-            passed: 0,
-            committed: 0,
-            lapsed: 0,
-            rejected: 0,
+            ..Numbers::ZERO
         };
         Ok(())
     }
 
     // What the bytes say, where they are a readable block that has no fault now. Refuses with 24, not founded; then 1 to 21.
     fn rule(&self, bytes: &[u8]) -> Result<DecodedBlock, Fault>
-        ensures { Rules (state_of (S.store self.now.store) (B.book self.now.book) self.now.numbers) bytes.now (says result) }
+        ensures { Rules self.now bytes.now (says result) }
     {
         if !self.numbers.founded {
             return Err(Cause::NotFounded.into());
@@ -98,8 +97,8 @@ impl<S: AccountStore, B: OfferBook> Replica<S, B> {
     // Checks a block, and gives it back as one that is owed a verdict: commit or reject. Refuses with 24, not founded; then
     // 26, no more checks can be counted; then what the bytes have (1 to 7), and the least of 8 to 21.
     pub fn check<'a>(&mut self, bytes: &'a [u8]) -> Result<CheckedBlock<'a>, Fault>
-        ensures holds { IfOk result (λ c. c.bytes.now ≡ bytes.now) }
-        ensures call { CheckCall (state_of (S.store self.old.store) (B.book self.old.book) self.old.numbers) bytes.now (plainly result) (state_of (S.store self.new.store) (B.book self.new.book) self.new.numbers) }
+        ensures holds { IfOk result (λ c. c ≡ bytes.now) }
+        ensures call { CheckCall self.old bytes.now (plainly result) self.new }
     {
         if !self.numbers.founded {
             return Err(Cause::NotFounded.into());
@@ -113,25 +112,21 @@ impl<S: AccountStore, B: OfferBook> Replica<S, B> {
     }
 
     // Applies a block that has no fault.
-    fn apply(&mut self, block: &DecodedBlock) -> Result<(), Fault>
-        ensures { Sound (state_of (S.store self.old.store) (B.book self.old.book) self.old.numbers) → Verdict (state_of (S.store self.old.store) (B.book self.old.book) self.old.numbers) (block_of block.now) None → (result ≡ Ok tt) × Committed (state_of (S.store self.old.store) (B.book self.old.book) self.old.numbers) (block_of block.now) (state_of (S.store self.new.store) (B.book self.new.book) self.new.numbers) }
+    fn apply(&mut self, block: &DecodedBlock)
+        requires founded { self.old.founded ≡ true }
+        requires clean { Verdict self.old (block_of block.now) None }
+        ensures { Committed self.old (block_of block.now) self.new }
     {
         let mut remainders = self.numbers.remainders;
-        clear(&mut self.store, &mut self.book, &mut remainders, block)?;
-        let height = self.numbers.height.saturating_add(1);
+        clear(&mut self.store, &mut self.book, &mut remainders, block).unwrap();
+        let height = self.numbers.height + 1;
         let digest = state_digest(&self.store, &self.book, height, &remainders);
-        let old = self.numbers;
         self.numbers = Numbers {
-            founded: old.founded,
             height,
             digest,
             remainders,
-            passed: old.passed,
-            committed: old.committed.saturating_add(1),
-            lapsed: old.lapsed,
-            rejected: old.rejected,
+            ..self.numbers
         };
-        Ok(())
     }
 }
 
@@ -139,6 +134,15 @@ impl<S: AccountStore, B: OfferBook> Replica<S, B> {
 // spends it.
 pub struct CheckedBlock<'a> {
     bytes: &'a [u8],
+}
+
+// It means its bytes.
+impl<'a> Model for CheckedBlock<'a> {
+    ghost use Rattle.std.specs.Prelude.{ℕ, List};
+
+    ghost Value = { List ℕ };
+
+    ghost view = { λ c. c.bytes.now };
 }
 
 impl<'a> CheckedBlock<'a> {
@@ -149,7 +153,7 @@ impl<'a> CheckedBlock<'a> {
         replica: &Replica<S, B>,
         key: Key,
     ) -> Result<(u64, u64), Fault>
-        ensures { Steady (state_of (S.store replica.now.store) (B.book replica.now.book) replica.now.numbers) → FillCall (state_of (S.store replica.now.store) (B.book replica.now.book) replica.now.numbers) self.now.bytes.now key result }
+        ensures { FillCall replica.now self.now key result }
     {
         let block = replica.rule(self.bytes)?;
         let (sold, paid) = filled(&replica.book, &block, key);
@@ -162,11 +166,14 @@ impl<'a> CheckedBlock<'a> {
         self,
         replica: &mut Replica<S, B>,
     ) -> Result<(), Fault>
-        ensures { Steady (state_of (S.store replica.old.store) (B.book replica.old.book) replica.old.numbers) → CommitCall (state_of (S.store replica.old.store) (B.book replica.old.book) replica.old.numbers) self.entry.bytes.now result (state_of (S.store replica.new.store) (B.book replica.new.book) replica.new.numbers) }
+        ensures { CommitCall replica.old self.entry result replica.new }
     {
         let CheckedBlock { bytes } = self;
         match replica.rule(bytes) {
-            Ok(block) => replica.apply(&block),
+            Ok(block) => {
+                replica.apply(&block);
+                Ok(())
+            }
             Err(fault) => {
                 replica.numbers.lapsed = replica.numbers.lapsed.saturating_add(1);
                 Err(fault)
@@ -176,7 +183,7 @@ impl<'a> CheckedBlock<'a> {
 
     // Rejects the block: raises `rejected`, and changes nothing else. Refuses nothing.
     pub fn reject<S: AccountStore, B: OfferBook>(self, replica: &mut Replica<S, B>)
-        ensures { state_of (S.store replica.new.store) (B.book replica.new.book) replica.new.numbers ≡ after_reject (state_of (S.store replica.old.store) (B.book replica.old.book) replica.old.numbers) }
+        ensures { replica.new ≡ after_reject replica.old }
     {
         let CheckedBlock { bytes: _ } = self;
         replica.numbers.rejected = replica.numbers.rejected.saturating_add(1);

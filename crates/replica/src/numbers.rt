@@ -1,7 +1,8 @@
 // The replica's own numbers: everything that it holds beside its store and its book.
-ghost use Rattle.std.specs.Prelude.{◌≡◌};
 
-// Each commit raises height and `committed` together, and a founding sets both to 0.
+// The height is also how many blocks have been committed, since a founding sets both to 0 and a commit raises both by 1.
+// Whether there was a founding is a flag: an Option round the numbers would have the questions ask for it at each number,
+// and answer 0 before the founding all the same.
 #[derive(Clone, Copy)]
 pub struct Numbers {
     pub(crate) founded: bool,
@@ -9,8 +10,19 @@ pub struct Numbers {
     pub(crate) digest: [u8; 32],
     pub(crate) remainders: [u64; 8],
     pub(crate) passed: u32,
-    pub(crate) committed: u32,
     pub(crate) lapsed: u32,
     pub(crate) rejected: u32,
-    ghost level: { committed ≡ height },
+}
+
+impl Numbers {
+    // Before the founding.
+    pub(crate) const ZERO: Numbers = Numbers {
+        founded: false,
+        height: 0,
+        digest: [0; 32],
+        remainders: [0; 8],
+        passed: 0,
+        lapsed: 0,
+        rejected: 0,
+    };
 }

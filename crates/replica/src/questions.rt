@@ -1,10 +1,10 @@
 // The questions that a replica answers: about its own numbers, its store and its book. None changes anything.
-ghost use Rattle.std.specs.Prelude.{◌≡◌, [], ◌∷◌, length, if◌then◌else◌, slice_index};
+ghost use Rattle.std.specs.Prelude.{◌≡◌, [], ◌∷◌, length, if◌then◌else◌, slice_index, true};
 ghost use Rattle.terms.specs.Order.{name, words, place, above};
-ghost use Rattle.terms.specs.Holdings.{standing, floor_at, balance_at, free_of, amount_at, offered_of, up_to};
+ghost use Rattle.terms.specs.Holdings.{sound_store, sound_book, standing, floor_at, balance_at, free_of, amount_at, offered_of, up_to};
 ghost use Rattle.ordered.specs.Places.{told};
 ghost use Rattle.exchange.specs.State.{remainder};
-ghost use Rattle.replica.specs.Meaning.{state_of};
+ghost use Rattle.replica.specs.Meaning.{Steady};
 
 use crate::life::Replica;
 use accounts::AccountStore;
@@ -15,157 +15,156 @@ use terms::Key;
 fn at(amounts: &[u64; 8], asset: u8) -> u64
     ensures { result ≡ slice_index amounts.now asset }
 {
-    if asset < 8 {
-        amounts[asset as usize]
-    } else {
-        0
-    }
+    amounts.get(asset as usize).copied().unwrap_or(0)
 }
 
 impl<S: AccountStore, B: OfferBook> Replica<S, B> {
     // How many blocks have been committed since the founding.
     pub fn height(&self) -> u32
-        ensures { result ≡ (state_of (S.store self.now.store) (B.book self.now.book) self.now.numbers).own.height }
+        ensures { result ≡ self.now.own.height }
     {
         self.numbers.height
     }
 
-    // The digest of the state: zeros before the founding.
+    // The digest of the state: zeros before the founding. Store and book are sound, and from the founding on so is the state.
     pub fn digest(&self) -> [u8; 32]
-        ensures { result ≡ (state_of (S.store self.now.store) (B.book self.now.book) self.now.numbers).own.digest }
+        ensures value { result ≡ self.now.own.digest }
+        ensures store { sound_store self.now.store ≡ true }
+        ensures book { sound_book self.now.book ≡ true }
+        ensures steady { Steady self.now }
     {
         self.numbers.digest
     }
 
     // What rounding has left over of an asset: 0 for an asset above 7.
     pub fn remainder(&self, asset: u8) -> u64
-        ensures { result ≡ remainder (state_of (S.store self.now.store) (B.book self.now.book) self.now.numbers) asset }
+        ensures { result ≡ remainder self.now asset }
     {
         at(&self.numbers.remainders, asset)
     }
 
     // How many checks were passed.
     pub fn passed(&self) -> u32
-        ensures { result ≡ (state_of (S.store self.now.store) (B.book self.now.book) self.now.numbers).counts.passed }
+        ensures { result ≡ self.now.counts.passed }
     {
         self.numbers.passed
     }
 
     // How many blocks were committed.
     pub fn committed(&self) -> u32
-        ensures { result ≡ (state_of (S.store self.now.store) (B.book self.now.book) self.now.numbers).counts.committed }
+        ensures { result ≡ self.now.counts.committed }
     {
-        self.numbers.committed
+        self.numbers.height
     }
 
     // How many commits were refused; it stops at 4,294,967,295.
     pub fn lapsed(&self) -> u32
-        ensures { result ≡ (state_of (S.store self.now.store) (B.book self.now.book) self.now.numbers).counts.lapsed }
+        ensures { result ≡ self.now.counts.lapsed }
     {
         self.numbers.lapsed
     }
 
     // How many blocks were rejected; it stops at 4,294,967,295.
     pub fn rejected(&self) -> u32
-        ensures { result ≡ (state_of (S.store self.now.store) (B.book self.now.book) self.now.numbers).counts.rejected }
+        ensures { result ≡ self.now.counts.rejected }
     {
         self.numbers.rejected
     }
 
     // Whether an account stands.
     pub fn stands(&self, number: u32) -> bool
-        ensures { (if result then 1 else 0) ≡ standing (S.store self.now.store) number }
+        ensures { (if result then 1 else 0) ≡ standing self.now.store number }
     {
         self.store.stands(number)
     }
 
     // A free balance: 0 for an absent account or an asset above 7.
     pub fn balance(&self, number: u32, asset: u8) -> u64
-        ensures { result ≡ balance_at (S.store self.now.store) number asset }
+        ensures { result ≡ balance_at self.now.store number asset }
     {
         self.store.balance(number, asset)
     }
 
     // The highest sequence number that an account has used: 0 for an absent account.
     pub fn floor(&self, number: u32) -> u32
-        ensures { result ≡ floor_at (S.store self.now.store) number }
+        ensures { result ≡ floor_at self.now.store number }
     {
         self.store.floor(number)
     }
 
     // How many accounts stand.
     pub fn accounts(&self) -> u32
-        ensures { result ≡ length (S.store self.now.store).accounts }
+        ensures { result ≡ length self.now.store.accounts }
     {
         self.store.count()
     }
 
     // How many accounts may stand.
     pub fn account_capacity(&self) -> u32
-        ensures { result ≡ (S.store self.now.store).capacity }
+        ensures { result ≡ self.now.store.capacity }
     {
         self.store.capacity()
     }
 
     // The highest number that an account may have.
     pub fn top(&self) -> u32
-        ensures { result ≡ (S.store self.now.store).top }
+        ensures { result ≡ self.now.store.top }
     {
         self.store.top()
     }
 
     // The sum of all free balances of an asset.
     pub fn free(&self, asset: u8) -> u64
-        ensures { result ≡ free_of (S.store self.now.store) asset }
+        ensures { result ≡ free_of self.now.store asset }
     {
         self.store.total(asset)
     }
 
     // The lowest standing account above a number.
     pub fn next_account(&self, number: u32) -> Option<u32>
-        ensures { told (λ n. n ∷ []) result ≡ above name (S.store self.now.store).accounts (number ∷ []) }
+        ensures { told (λ n. n ∷ []) result ≡ above name self.now.store.accounts (number ∷ []) }
     {
         self.store.next(number)
     }
 
     // The amount that a key sells: 0 where it does not stand.
     pub fn amount(&self, key: Key) -> u64
-        ensures { result ≡ amount_at (B.book self.now.book).offers key }
+        ensures { result ≡ amount_at self.now.book.offers key }
     {
         self.book.amount(key)
     }
 
     // How many offers stand.
     pub fn offers(&self) -> u32
-        ensures { result ≡ length (B.book self.now.book).offers }
+        ensures { result ≡ length self.now.book.offers }
     {
         self.book.count()
     }
 
     // How many offers may stand.
     pub fn offer_capacity(&self) -> u32
-        ensures { result ≡ (B.book self.now.book).capacity }
+        ensures { result ≡ self.now.book.capacity }
     {
         self.book.capacity()
     }
 
     // The sum offered of a sold asset.
     pub fn offered(&self, sold: u8) -> u64
-        ensures { result ≡ offered_of (B.book self.now.book) sold }
+        ensures { result ≡ offered_of self.now.book sold }
     {
         self.book.offered(sold)
     }
 
     // The lowest standing key above a key.
     pub fn next_offer(&self, key: Key) -> Option<Key>
-        ensures { told words result ≡ above place (B.book self.now.book).offers (words key) }
+        ensures { told words result ≡ above place self.now.book.offers (words key) }
     {
         self.book.next(key)
     }
 
     // The sum of a pair's amounts whose limit is at most the given one.
     pub fn up_to(&self, sold: u8, bought: u8, limit: u32) -> u64
-        ensures { result ≡ up_to (B.book self.now.book) sold bought limit }
+        ensures { result ≡ up_to self.now.book sold bought limit }
     {
         self.book.up_to(sold, bought, limit)
     }

@@ -75,7 +75,8 @@ pub enum Verdict {
 impl Verdict {
     // On runs over so many events. Two that both answered the same events, and alike, agree.
     fn of(events: usize, pair: &Pair) -> Verdict {
-        if pair.first.stop == Stop::NoMemory || pair.second.stop == Stop::NoMemory {
+        let stops = [pair.first.stop, pair.second.stop];
+        if stops.contains(&Err(Stop::NoMemory)) {
             return Verdict::NoMemory;
         }
         let answers = pair.first.answers.iter().zip(pair.second.answers.iter());

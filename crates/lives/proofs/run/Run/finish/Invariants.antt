@@ -1,5 +1,5 @@
 use Rattle.std.proofs.Common.{vec_len}
-use Rattle.lives.proofs.run.reject_all.Given as goal
+use Rattle.lives.proofs.run.Run.finish.Given as goal
 
 abbrev pub decreases-loop-slot : goal.decreases-loop-slot
 decreases-loop-slot g l = vec_len l.held
