@@ -2,7 +2,8 @@
 // of the words and the files.
 #![tactic(auto)]
 
-ghost use Rattle.std.specs.Prelude.{◌≡◌, MatchResult};
+ghost use Rattle.std.specs.Prelude.{◌≡◌, IfErr, MatchResult};
+ghost use Rattle.std.specs.declared.io.Error.{Error};
 ghost use Rattle.std.specs.Process.{exit_status};
 
 use std::alloc::AllocError;
@@ -61,7 +62,9 @@ pub fn read_file<'a>(
     rt: &(impl Files + AllocGlobal),
     path: &'a str,
     wanted: &'static str,
-) -> Result<Vec<u8>, Failure<'a>> {
+) -> Result<Vec<u8>, Failure<'a>>
+    ensures { IfErr result (λ failure. (error : Error) × (failure ≡ Failure.File path.entry error wanted.entry)) }
+{
     fs::read(rt, path).map_err(|error| Failure::File {
         path,
         error,
@@ -79,5 +82,32 @@ pub fn end(rt: &impl Eprint, outcome: Result<ExitCode, impl Display + Drop>) -> 
             let _ = rt.eprintln(failure);
             ExitCode::FAILURE
         }
+    }
+}
+
+#[cfg(test)]
+mod tests {
+    use super::*;
+    use std::test::Fail;
+
+    #[test]
+    fn what_is_there_is_read(rt: HostRuntime) -> Result<(), Fail> {
+        drop(words(&rt)?);
+        let bytes = read_file(&rt, "/dev/null", "a file")?;
+        assert_eq!(rt; bytes.len(), 0);
+        Ok(())
+    }
+
+    #[test]
+    fn what_is_not_there_is_named(rt: HostRuntime) -> Result<(), Fail> {
+        let Err(failure) = read_file(&rt, "", "a file") else {
+            panic!(rt; "an empty path was read");
+        };
+        let text = failure.to_string(rt.alloc())?;
+        assert_eq!(rt;
+            text.as_str(),
+            " cannot be read (No such file or directory (os error 2)): name a file"
+        );
+        Ok(())
     }
 }
