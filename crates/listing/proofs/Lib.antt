@@ -1,2 +1,3 @@
+pub mod Eights
 pub mod Adding
 pub mod Streaming

@@ -1,23 +1,16 @@
--- The blocks of a stream, one by one, and what a replica is known to have after each. Assumes nothing.
+-- The blocks of a stream, one by one. Assumes nothing.
 use Rattle.std.proofs.Common.{◌≡◌, ℕ, ◌<◌, true, ltb, List, [], ◌∷◌, ◌++◌, length, take, drop, Some, Ok, Err, MatchBool, Result, sym, refl, ap, ◌∙◌, subst, subst₂, inl, inr, append_assoc, append-nil, arith}
-use Rattle.std.proofs.lemmas.Bool.{and_parts}
 use Rattle.terms.specs.declared.Fault.{Fault}
 use Rattle.terms.specs.declared.Grant.{Grant}
-use Rattle.terms.specs.Ranges.{every, fit_grant}
-use Rattle.terms.specs.Holdings.{sound_store, sound_book}
 use Rattle.commands.specs.Extent.{Ends, Endless}
 use Rattle.blocks.specs.Readable.{Block}
-use Rattle.blocks.proofs.Laws.{read_one_way, founds_fits}
+use Rattle.blocks.proofs.Laws.{read_one_way}
 use Rattle.exchange.specs.State.{State, Counts, most}
 use Rattle.exchange.specs.Faults.{fault, Verdict}
-use Rattle.exchange.specs.Commit.{Sound, Committed, counted, one_passed}
-use Rattle.exchange.specs.Life.{is_empty, RulesFounding, Reads, Rules, RulesCheck, AfterFounding, AfterCheck, AfterCommit}
-use Rattle.exchange.proofs.Running.{read_founded, founded_first}
+use Rattle.exchange.specs.Commit.{Committed, counted, one_passed}
+use Rattle.exchange.specs.Life.{RulesFounding, Reads, Rules, RulesCheck, AfterFounding, AfterCheck, AfterCommit}
+use Rattle.exchange.proofs.Running.{read_founded}
 use Rattle.exchange.proofs.Causes.{clean_counted}
-use Rattle.exchange.proofs.Conserve.{read_fits}
-use Rattle.exchange.proofs.Fit.{all_from}
-use Rattle.exchange.proofs.Lasting.{still_sound, founded_sound, sound_counted}
-use Rattle.replica.specs.Meaning.{Steady}
 use Rattle.replica.specs.Calls.{plainly, FoundCall, CheckCall, CommitCall}
 use Rattle.replica.proofs.Rulings.{Passes, passes}
 use Rattle.listing.specs.declared.line.Line.{Line}
@@ -62,15 +55,11 @@ settled : (s m t : State) (bs : List ℕ) (a : Result (Unit {0}) Fault) → Chec
     → (a ≡ Ok tt) × BlockTaken s bs (line.Done t.own.height) t
 settled s m t bs a p q = settles s m t bs p.ruling q.ruling a p.rules p.answer p.after q.rules q.answer q.after
 
-check_steady : (s m : State) (r : Result Block Fault) → AfterCheck s r m → Steady s → Steady m
-check_steady s m (Ok b) w h = subst Steady (sym w) (λ e. sound_counted s (one_passed s.counts) (h e))
-check_steady s m (Err f) w h = subst Steady (sym w) h
-
 -- the same at a replica, which commits the bytes that it checked
-pub committed : (s m t : State) (bs cs : List ℕ) (a : Result (Unit {0}) Fault) → cs ≡ bs → CheckCall s bs (Ok tt) m → (Steady m → CommitCall m cs a t) → Steady s
+pub committed : (s m t : State) (bs cs : List ℕ) (a : Result (Unit {0}) Fault) → cs ≡ bs → CheckCall s bs (Ok tt) m → CommitCall m cs a t
     → (a ≡ Ok tt) × ((n : ℕ) → n ≡ t.own.height → BlockTaken s bs (line.Done n) t)
-committed s m t bs cs a is p q h =
-    let z = settled s m t bs a p (subst (λ z. CommitCall m z a t) is (q (check_steady s m p.ruling p.after h))) in
+committed s m t bs cs a is p q =
+    let z = settled s m t bs a p (subst (λ z. CommitCall m z a t) is q) in
     (z.0, λ n e. subst (λ k. BlockTaken s bs (line.Done k) t) (sym e) z.1)
 
 -- a block that its check refuses
@@ -100,25 +89,16 @@ opens s t bs piece rest n ends is l p = opens_by s t bs piece n ends is p.ruling
 pub unopened : (s t : State) (bs piece : List ℕ) (n : ℕ) (f : Fault) → Ends bs n → piece ≡ take n bs → FoundCall s piece (Err f) t → Unopened s bs f t
 unopened s t bs piece n f ends is p = unopened_by s t bs piece n ends is p.ruling f p.rules p.answer p.after
 
--- What lasts: the state is sound after the founding, and after each block.
+-- A founded replica stays founded.
 
-pub opened_sound : (s : State) (bs rest : List ℕ) (t : State) → sound_store s.store ≡ true → sound_book s.book ≡ true → Opened s bs rest t → Sound t
-opened_sound s bs rest t st bk o =
-    let gs = o.grants in
-    let piece = take o.width bs in
-    let (_, p) = founded_first s.founded _ gs (fault 25 0 0) o.rules in
-    let (_, r) = read_founded (is_empty s) _ gs (fault 22 0 0) p in
-    founded_sound s gs (all_from fit_grant gs (and_parts (every fit_grant gs) _ (founds_fits piece gs r.0)).0) r.1 st bk t o.founded
+founded_after : (s : State) (r : Result Block Fault) (l : Line) (t : State) → Settled s r l t → s.founded ≡ true → t.founded ≡ true
+founded_after s (Ok b) l t z f = z.0.founded ∙ f
+founded_after s (Err g) l t z f = ap (λ x. x.founded) z.0 ∙ f
 
-sound_after : (s : State) (bs : List ℕ) (r : Result Block Fault) (l : Line) (t : State) → Sound s → RulesCheck s bs r → Settled s r l t → Sound t
-sound_after s bs (Ok b) l t so q z =
-    let n = one_passed s.counts in
-    let h = passed s bs b q in
-    still_sound (counted s n) b (sound_counted s n so) (clean_counted s n b h.clean) (read_fits bs b h.readable) t z.0
-sound_after s bs (Err f) l t so q z = subst Sound (sym z.0) so
-
-pub taken_sound : (s : State) (bs : List ℕ) (l : Line) (t : State) → Sound s → BlockTaken s bs l t → Sound t
-taken_sound s bs l t so b = sound_after s bs b.ruling l t so b.rules b.settled
+blocks_founded : (ls : List Line) (s : State) (bs : List ℕ) (t : State) → Blocks s bs ls t → s.founded ≡ true → t.founded ≡ true
+blocks_founded [] s bs t (_, e) f = ap (λ x. x.founded) e ∙ f
+blocks_founded (l ∷ ls) s bs t (inl (_, _, _, _, _, e)) f = ap (λ x. x.founded) e ∙ f
+blocks_founded (l ∷ ls) s bs t (inr (n, m, _, b, more)) f = blocks_founded ls m (drop n bs) t more (founded_after s b.ruling l m b.settled f)
 
 nothing : (xs : List ℕ) → length xs ≡ 0 → xs ≡ []
 nothing [] e = refl
@@ -126,49 +106,36 @@ nothing (x ∷ xs) e = absurd (omega arith)
 
 -- A run over blocks that has come to the state m, with these bytes left and these lines: whatever the bytes that are left
 -- come to, the whole comes to.
-pub record Going (s : State) (bs : List ℕ) (before : List Line) (m : State) (rest : List ℕ) (lines : List Line) : Type 0 where
-  pub sound : Sound s → Sound m
-  pub onward : Sound s → (ls : List Line) (t : State) → Blocks m rest ls t → BlocksTaken s bs before (lines ++ ls) t
+abbrev pub Going : State → List ℕ → List Line → State → List ℕ → List Line → Type 0
+Going s bs before m rest lines = (ls : List Line) (t : State) → Blocks m rest ls t → BlocksTaken s bs before (lines ++ ls) t
 
 pub starts : (s : State) (bs : List ℕ) (before : List Line) → Going s bs before s bs before
-starts s bs before = record { sound = λ so. so; onward = λ so ls t b. record { lines = ls; blocks = b; added = refl } }
+starts s bs before = λ ls t b. record { lines = ls; blocks = b; added = refl }
 
 module _ (s : State) (bs : List ℕ) (before : List Line) (m : State) (rest : List ℕ) (lines : List Line) (go : Going s bs before m rest lines) where
   -- one more block
   pub goes_on : (k : State) (n : ℕ) (piece after : List ℕ) (l : Line) (more : List Line) → Ends rest n → piece ≡ take n rest → after ≡ drop n rest
-      → (Steady m → BlockTaken m piece l k) → more ≡ lines ++ l ∷ [] → Going s bs before k after more
-  goes_on k n piece after l more ends is left takes added =
-      record {
-        sound = λ so. taken_sound m piece l k (go.sound so) (takes (λ _. go.sound so));
-        onward = λ so ls t b.
-            let taken : BlockTaken m (take n rest) l k = subst (λ p. BlockTaken m p l k) is (takes (λ _. go.sound so)) in
-            let whole = go.onward so (l ∷ ls) t (inr (n, k, ends, taken, subst (λ z. Blocks k z ls t) left b)) in
-            let all : lines ++ (l ∷ ls) ≡ more ++ ls = sym (append_assoc lines (l ∷ []) ls) ∙ ap (λ z. z ++ ls) (sym added) in
-            subst (λ z. BlocksTaken s bs before z t) all whole;
-      }
+      → BlockTaken m piece l k → more ≡ lines ++ l ∷ [] → Going s bs before k after more
+  goes_on k n piece after l more ends is left takes added = λ ls t b.
+      let taken : BlockTaken m (take n rest) l k = subst (λ p. BlockTaken m p l k) is takes in
+      let whole = go (l ∷ ls) t (inr (n, k, ends, taken, subst (λ z. Blocks k z ls t) left b)) in
+      let all : lines ++ (l ∷ ls) ≡ more ++ ls = sym (append_assoc lines (l ∷ []) ls) ∙ ap (λ z. z ++ ls) (sym added) in
+      subst (λ z. BlocksTaken s bs before z t) all whole
 
   -- the bytes are used up
-  pub ends_well : length rest ≡ 0 → Sound s → BlocksTaken s bs before lines m
-  ends_well e so = subst (λ z. BlocksTaken s bs before z m) (append-nil lines) (go.onward so [] m (nothing rest e, refl))
+  pub ends_well : length rest ≡ 0 → BlocksTaken s bs before lines m
+  ends_well e = subst (λ z. BlocksTaken s bs before z m) (append-nil lines) (go [] m (nothing rest e, refl))
 
   -- there is no further end
-  pub ends_badly : (f : Fault) (more : List Line) → 0 < length rest → Endless rest f → more ≡ lines ++ line.Refused f ∷ [] → Sound s → BlocksTaken s bs before more m
-  ends_badly f more h e added so =
-      subst (λ z. BlocksTaken s bs before z m) (sym added) (go.onward so (line.Refused f ∷ []) m (inl (f, h, e, refl, refl, refl)))
-
-blocks_sound : (ls : List Line) (s : State) (bs : List ℕ) (t : State) → Sound s → Blocks s bs ls t → Sound t
-blocks_sound [] s bs t so (_, e) = subst Sound (sym e) so
-blocks_sound (l ∷ ls) s bs t so (inl (f, _, _, _, _, e)) = subst Sound (sym e) so
-blocks_sound (l ∷ ls) s bs t so (inr (n, m, _, b, more)) = blocks_sound ls m (drop n bs) t (taken_sound s (take n bs) l m so b) more
+  pub ends_badly : (f : Fault) (more : List Line) → 0 < length rest → Endless rest f → more ≡ lines ++ line.Refused f ∷ [] → BlocksTaken s bs before more m
+  ends_badly f more h e added =
+      subst (λ z. BlocksTaken s bs before z m) (sym added) (go (line.Refused f ∷ []) m (inl (f, h, e, refl, refl, refl)))
 
 -- The whole listing of a stream whose founding is not refused.
-pub lists : (s : State) (bs rest : List ℕ) (m t : State) (n : ℕ) (none one two all : List Line) → sound_store s.store ≡ true → sound_book s.book ≡ true
-    → Opened s bs rest m → n ≡ m.own.height → none ≡ [] → one ≡ none ++ line.Done n ∷ [] → (Sound m → BlocksTaken m rest one two t)
-    → (Sound t → all ≡ two ++ state_lines t) → Listed s bs all t
-lists s bs rest m t n none one two all st bk o h e₀ e₁ takes shows =
-    let so = opened_sound s bs rest m st bk o in
-    let b = takes so in
-    let held = shows (blocks_sound b.lines m rest t so b.blocks) in
+pub lists : (s : State) (bs rest : List ℕ) (m t : State) (n : ℕ) (none one two all : List Line) → Opened s bs rest m → n ≡ m.own.height → none ≡ []
+    → one ≡ none ++ line.Done n ∷ [] → BlocksTaken m rest one two t → (t.founded ≡ true → all ≡ two ++ state_lines t) → Listed s bs all t
+lists s bs rest m t n none one two all o h e₀ e₁ b shows =
+    let held = shows (blocks_founded b.lines m rest t b.blocks o.founded.founded) in
     let zero : n ≡ 0 = h ∙ o.founded.height in
     let first : one ≡ line.Done 0 ∷ [] = e₁ ∙ (ap (λ z. z ++ line.Done n ∷ []) e₀ ∙ ap (λ k. line.Done k ∷ []) zero) in
     let whole : all ≡ line.Done 0 ∷ (b.lines ++ state_lines t) = held ∙ ap (λ z. z ++ state_lines t) (b.added ∙ ap (λ z. z ++ b.lines) first) in

@@ -1,9 +1,15 @@
--- The lines that say what a replica holds. Assumes nothing.
-use Rattle.std.specs.Prelude.{List, [], ◌∷◌, ◌++◌, map}
+-- The lines that say what came of a piece of the stream, and what a replica holds. Assumes nothing.
+use Rattle.std.specs.Prelude.{ℕ, List, [], ◌∷◌, ◌++◌, map, Ok, Err, Result}
+use Rattle.terms.specs.declared.Fault.{Fault}
 use Rattle.terms.specs.Holdings.{Store, Book}
 use Rattle.exchange.specs.State.{State}
 use Rattle.listing.specs.declared.line.Line.{Line}
 use Rattle.listing.specs.declared.line.Line.TheVariants as line
+
+-- the line of what was done, by the height after it, or of the fault
+abbrev pub line_of : Result ℕ Fault → Line
+line_of (Ok n) = line.Done n
+line_of (Err f) = line.Refused f
 
 -- a line for each account, by rising number
 abbrev pub account_lines : Store → List Line

@@ -1,6 +1,9 @@
 // The lines of a listing, and how each is written: a letter and numbers in decimal with one space between.
+ghost use Rattle.std.specs.Prelude.{◌≡◌};
+ghost use Rattle.listing.specs.Lines.{line_of};
+
 use std::fmt;
-use terms::{Account, Fault, Key, Offer};
+use terms::{Account, Fault, Hex, Offer};
 
 #[derive(Clone, Copy)]
 pub enum Line {
@@ -31,70 +34,43 @@ struct Amounts([u64; 8]);
 
 impl fmt::Display for Amounts {
     fn fmt<W: fmt::Write>(&self, f: &mut fmt::Formatter<W>) -> fmt::Result {
-        let amounts = self.0;
-        for amount in amounts.iter() {
-            let n = *amount;
-            write!(f, " {n}")?;
+        for amount in self.0 {
+            write!(f, " {amount}")?;
         }
         Ok(())
     }
 }
 
-// 32 bytes as 64 lower-case hexadecimal digits.
-#[derive(Clone, Copy)]
-struct Hex([u8; 32]);
+// What came of a piece of the stream: the height after it, or its fault.
+impl From<Result<u32, Fault>> for Line {
+    ghost from_gives = { λ outcome line. line ≡ line_of outcome };
 
-impl fmt::Display for Hex {
-    fn fmt<W: fmt::Write>(&self, f: &mut fmt::Formatter<W>) -> fmt::Result {
-        let bytes = self.0;
-        for byte in bytes.iter() {
-            let b = *byte;
-            write!(f, "{b:02x}")?;
+    fn from(outcome: Result<u32, Fault>) -> Self {
+        match outcome {
+            Ok(height) => Line::Done(height),
+            Err(fault) => Line::Refused(fault),
         }
-        Ok(())
     }
 }
 
 impl fmt::Display for Line {
     fn fmt<W: fmt::Write>(&self, f: &mut fmt::Formatter<W>) -> fmt::Result {
-        match *self {
+        match self {
             Line::Done(height) => write!(f, "K {height}"),
-            Line::Refused(fault) => {
-                let Fault {
-                    number,
-                    first,
-                    second,
-                } = fault;
-                write!(f, "N {number} {first} {second}")
-            }
-            Line::Remainders(amounts) => {
-                let remainders = Amounts(amounts);
-                write!(f, "R{remainders}")
-            }
+            Line::Refused(fault) => write!(f, "N {fault}"),
+            Line::Remainders(amounts) => write!(f, "R{}", Amounts(*amounts)),
             Line::Account(account) => {
-                let Account {
-                    number,
-                    floor,
-                    balances,
-                } = account;
-                let balances = Amounts(balances);
-                write!(f, "A {number} {floor}{balances}")
+                let balances = account.balances;
+                write!(
+                    f,
+                    "A {} {}{}",
+                    account.number,
+                    account.floor,
+                    Amounts(balances)
+                )
             }
-            Line::Offer(offer) => {
-                let Offer { key, amount } = offer;
-                let Key {
-                    sold,
-                    bought,
-                    limit,
-                    account,
-                    sequence,
-                } = key;
-                write!(f, "O {sold} {bought} {limit} {account} {sequence} {amount}")
-            }
-            Line::Digest(bytes) => {
-                let digest = Hex(bytes);
-                write!(f, "D {digest}")
-            }
+            Line::Offer(offer) => write!(f, "O {offer}"),
+            Line::Digest(bytes) => write!(f, "D {}", Hex(bytes)),
             Line::Counts {
                 passed,
                 committed,

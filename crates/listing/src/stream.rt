@@ -1,8 +1,7 @@
 // A stream run on a replica: the founding, then the blocks one after another, each checked and, where it passes,
 // committed at once.
 ghost use Rattle.std.specs.Prelude.{◌≡◌, ℕ, List, ◌++◌, IfOk, MatchResult, OnOk};
-ghost use Rattle.exchange.specs.Commit.{Sound};
-ghost use Rattle.replica.specs.Meaning.{state_of, Steady};
+ghost use Rattle.listing.specs.Lines.{line_of};
 ghost use Rattle.listing.specs.Streams.{Opened, Unopened, BlockTaken, BlocksTaken, Listed, Outcome};
 
 use crate::line::Line;
@@ -26,7 +25,7 @@ fn open<'a, S: AccountStore, B: OfferBook>(
     replica: &mut Replica<S, B>,
     bytes: &'a [u8],
 ) -> Result<&'a [u8], Fault>
-    ensures { MatchResult result (λ rest. Opened (state_of (S.store replica.old.store) (B.book replica.old.book) replica.old.numbers) bytes.now rest.now (state_of (S.store replica.new.store) (B.book replica.new.book) replica.new.numbers)) (λ f. Unopened (state_of (S.store replica.old.store) (B.book replica.old.book) replica.old.numbers) bytes.now f (state_of (S.store replica.new.store) (B.book replica.new.book) replica.new.numbers)) }
+    ensures { MatchResult result (λ rest. Opened replica.old bytes.now rest.now replica.new) (λ f. Unopened replica.old bytes.now f replica.new) }
 {
     let n = length(bytes)?;
     let (piece, rest) = bytes.split_at(n);
@@ -34,17 +33,15 @@ fn open<'a, S: AccountStore, B: OfferBook>(
     Ok(rest)
 }
 
-// Checks a block and commits it at once, where it passes.
-fn take_block<S: AccountStore, B: OfferBook>(replica: &mut Replica<S, B>, bytes: &[u8]) -> Line
-    ensures { Steady (state_of (S.store replica.old.store) (B.book replica.old.book) replica.old.numbers) → BlockTaken (state_of (S.store replica.old.store) (B.book replica.old.book) replica.old.numbers) bytes.now result (state_of (S.store replica.new.store) (B.book replica.new.book) replica.new.numbers) }
+// Checks a block and commits it at once, where it passes; the height after it.
+fn take_block<S: AccountStore, B: OfferBook>(
+    replica: &mut Replica<S, B>,
+    bytes: &[u8],
+) -> Result<u32, Fault>
+    ensures { BlockTaken replica.old bytes.now (line_of result) replica.new }
 {
-    match replica.check(bytes) {
-        Ok(block) => match block.commit(replica) {
-            Ok(()) => Line::Done(replica.height()),
-            Err(fault) => Line::Refused(fault),
-        },
-        Err(fault) => Line::Refused(fault),
-    }
+    replica.check(bytes)?.commit(replica)?;
+    Ok(replica.height())
 }
 
 // Takes block after block, and adds a line for each, until the bytes are used up or no further end can be found.
@@ -53,22 +50,20 @@ fn take_blocks<S: AccountStore, B: OfferBook>(
     bytes: &[u8],
     lines: &mut Vec<Line>,
 ) -> Result<(), AllocError>
-    ensures { Sound (state_of (S.store replica.old.store) (B.book replica.old.book) replica.old.numbers) → OnOk result (BlocksTaken (state_of (S.store replica.old.store) (B.book replica.old.book) replica.old.numbers) bytes.now lines.old.items lines.new.items (state_of (S.store replica.new.store) (B.book replica.new.book) replica.new.numbers)) }
+    ensures { OnOk result (BlocksTaken replica.old bytes.now lines.old.items lines.new.items replica.new) }
 {
     let mut rest = bytes;
-    while rest.len() > 0 {
-        match length(rest) {
-            Ok(n) => {
-                let (piece, after) = rest.split_at(n);
-                let line = take_block(replica, piece);
-                lines.push(line)?;
-                rest = after;
-            }
+    while !rest.is_empty() {
+        let n = match length(rest) {
+            Ok(n) => n,
             Err(fault) => {
                 lines.push(Line::Refused(fault))?;
                 return Ok(());
             }
-        }
+        };
+        let (piece, after) = rest.split_at(n);
+        lines.push(take_block(replica, piece).into())?;
+        rest = after;
     }
     Ok(())
 }
@@ -80,7 +75,7 @@ fn run<S: AccountStore, B: OfferBook>(
     replica: &mut Replica<S, B>,
     bytes: &[u8],
 ) -> Result<Vec<Line>, AllocError>
-    ensures { IfOk result (λ v. Listed (state_of (S.store replica.old.store) (B.book replica.old.book) replica.old.numbers) bytes.now v.items (state_of (S.store replica.new.store) (B.book replica.new.book) replica.new.numbers)) }
+    ensures { IfOk result (λ v. Listed replica.old bytes.now v.items replica.new) }
 {
     let mut lines = Vec::new(heap);
     match open(replica, bytes) {

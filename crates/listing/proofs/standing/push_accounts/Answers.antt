@@ -12,17 +12,17 @@ some n e = omega (arith, ap length e)
 
 pub loop-number-init : goal.loop-number-init
 loop-number-init g c =
-    let st = (g.S.AccountStore.store c.args.replica.now.store) in
-    let ok = store_parts st (g.met.S.AccountStore.sound c.args.replica.now.store) in
+    let st = c.args.replica.now.store in
+    let ok = store_parts st c.requires in
     let all = rest_all name st.accounts (0 ∷ []) (All-weaker _ _ (λ a e. above_zero a.number (account_parts st.top a e).some) st.accounts ok.fit) in
     ap (λ xs. vec_items c.args.lines.now ++ map line.Account xs) all
 
 -- the account that the loop comes to
 after : (g : _) (c : goal.In_ok-push g)
-    → Next name (g.S.AccountStore.store c.args.replica.now.store).accounts (c.loop-number.at ∷ []) (c.in-Some.number ∷ [])
+    → Next name c.args.replica.now.store.accounts (c.loop-number.at ∷ []) (c.in-Some.number ∷ [])
 after g c =
-    let st = (g.S.AccountStore.store c.args.replica.now.store) in
-    let ok = store_parts st (g.met.S.AccountStore.sound c.args.replica.now.store) in
+    let st = c.args.replica.now.store in
+    let ok = store_parts st c.requires in
     rest_next name st.accounts _ _ ok.up (some _) (sym c.in-Some.ensures)
 
 pub loop-number-smaller : goal.loop-number-smaller
@@ -30,7 +30,7 @@ loop-number-smaller g c = fewer name line.Account _ _ _ (after g c)
 
 pub loop-number-preserved : goal.loop-number-preserved
 loop-number-preserved g c =
-    let st = (g.S.AccountStore.store c.args.replica.now.store) in
+    let st = c.args.replica.now.store in
     let n = after g c in
     let number : n.entry.number ≡ c.in-Some.number = let e = n.is in cc in
     let is = c.account.ensures n.entry n.has number in
@@ -39,7 +39,7 @@ loop-number-preserved g c =
 
 pub returns : goal.returns
 returns g c =
-    let st = (g.S.AccountStore.store c.args.replica.now.store) in
-    let ok = store_parts st (g.met.S.AccountStore.sound c.args.replica.now.store) in
+    let st = c.args.replica.now.store in
+    let ok = store_parts st c.requires in
     let none = rest_end name st.accounts (c.loop-number.at ∷ []) (All-weaker _ _ (λ a _. some a.number) st.accounts ok.fit) (sym c.in_default.ensures) in
     ended name line.Account st.accounts (c.loop-number.at ∷ []) _ _ none c.loop-number.invariant

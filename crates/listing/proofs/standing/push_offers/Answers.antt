@@ -1,8 +1,8 @@
-use Rattle.std.proofs.Common.{◌≡◌, ℕ, ◌<◌, true, ltb, List, [], ◌∷◌, ◌++◌, map, length, vec_items, sym, refl, ap, ◌∙◌, arith}
+use Rattle.std.proofs.Common.{◌≡◌, ℕ, ◌<◌, rules, true, ltb, List, [], ◌∷◌, ◌++◌, map, length, vec_items, sym, refl, ap, ◌∙◌, subst, arith}
 use Rattle.std.proofs.ByRecursion.{all-has, All-weaker}
 use Rattle.std.proofs.lemmas.Bool.{and_parts, ltb-true}
 use Rattle.terms.specs.declared.Offer.{Offer}
-use Rattle.terms.specs.Order.{place, words, under}
+use Rattle.terms.specs.Order.{lower, place, words, under}
 use Rattle.terms.specs.Ranges.{is_pair, is_number, is_word, is_amount, fit_key, fit_offer}
 use Rattle.terms.proofs.Order.{key_is}
 use Rattle.ordered.proofs.Rising.{under_each}
@@ -24,17 +24,18 @@ some k n e h z = omega (arith, e, ap length z)
 
 pub loop-key-init : goal.loop-key-init
 loop-key-init g c =
-    let bk = (g.B.OfferBook.book c.args.replica.now.book) in
-    let ok = book_parts bk (g.met.B.OfferBook.sound c.args.replica.now.book) in
-    let all = rest_all place bk.offers (0 ∷ 0 ∷ 0 ∷ 0 ∷ 0 ∷ []) (All-weaker _ _ (λ o e. above_zeros o.key (owned o e)) bk.offers ok.fit) in
-    ap (λ os. vec_items c.args.lines.now ++ map line.Offer os) all
+    let bk = c.args.replica.now.book in
+    let ok = book_parts bk c.requires in
+    let zeros : words c.default-at.result ≡ 0 ∷ 0 ∷ 0 ∷ 0 ∷ 0 ∷ [] = search rules in
+    let below = All-weaker _ _ (λ o e. subst (λ k. lower k (words o.key) ≡ true) (sym zeros) (above_zeros o.key (owned o e))) bk.offers ok.fit in
+    ap (λ os. vec_items c.args.lines.now ++ map line.Offer os) (rest_all place bk.offers (words c.default-at.result) below)
 
 -- the offer that the loop comes to
 after : (g : _) (c : goal.In_ok-push g)
-    → Next place (g.B.OfferBook.book c.args.replica.now.book).offers (words c.loop-key.at) (words c.in-Some.key)
+    → Next place c.args.replica.now.book.offers (words c.loop-key.at) (words c.in-Some.key)
 after g c =
-    let bk = (g.B.OfferBook.book c.args.replica.now.book) in
-    let ok = book_parts bk (g.met.B.OfferBook.sound c.args.replica.now.book) in
+    let bk = c.args.replica.now.book in
+    let ok = book_parts bk c.requires in
     rest_next place bk.offers _ _ ok.up (some _ 5 refl (omega arith)) (sym c.in-Some.ensures)
 
 pub loop-key-smaller : goal.loop-key-smaller
@@ -42,8 +43,8 @@ loop-key-smaller g c = fewer place line.Offer _ _ _ (after g c)
 
 pub loop-key-preserved : goal.loop-key-preserved
 loop-key-preserved g c =
-    let bk = (g.B.OfferBook.book c.args.replica.now.book) in
-    let ok = book_parts bk (g.met.B.OfferBook.sound c.args.replica.now.book) in
+    let bk = c.args.replica.now.book in
+    let ok = book_parts bk c.requires in
     let n = after g c in
     let o = n.entry in
     let key : c.in-Some.key ≡ o.key = sym (key_is o.key c.in-Some.key n.is) in
@@ -55,6 +56,6 @@ loop-key-preserved g c =
 
 pub returns : goal.returns
 returns g c =
-    let bk = (g.B.OfferBook.book c.args.replica.now.book) in
-    let none = rest_end place bk.offers (words c.loop-key.at) (All-weaker _ _ (λ o _. some _ 5 refl (omega arith)) bk.offers (book_parts bk (g.met.B.OfferBook.sound c.args.replica.now.book)).fit) (sym c.in_default.ensures) in
+    let bk = c.args.replica.now.book in
+    let none = rest_end place bk.offers (words c.loop-key.at) (All-weaker _ _ (λ o _. some _ 5 refl (omega arith)) bk.offers (book_parts bk c.requires).fit) (sym c.in_default.ensures) in
     ended place line.Offer bk.offers (words c.loop-key.at) _ _ none c.loop-key.invariant

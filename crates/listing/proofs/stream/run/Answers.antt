@@ -16,5 +16,5 @@ returns-in_err-push-in-Err g c = let p = err_from_is_err_and c.from_residual-in_
 
 pub returns-in_ok-push_state-in-Ok : goal.returns-in_ok-push_state-in-Ok
 returns-in_ok-push_state-in-Ok g c =
-    lists _ _ _ _ _ _ _ _ _ _ (g.met.S.AccountStore.sound c.args.replica.now.store) (g.met.B.OfferBook.sound c.args.replica.now.book)
-    c.in-Ok.ensures c.height.ensures c.new-lines.ensures.items c.in_ok-push-in-Ok.ensures.items c.in_ok-take_blocks-in-Ok.ensures c.in_ok-push_state-in-Ok.ensures
+    lists _ _ _ _ _ _ _ _ _ _ c.in-Ok.ensures c.height.ensures c.new-lines.ensures.items c.in_ok-push-in-Ok.ensures.items c.in_ok-take_blocks-in-Ok.ensures
+    c.in_ok-push_state-in-Ok.ensures
