@@ -220,8 +220,7 @@ impl fmt::Display for Command<'_> {
     fn fmt<W: fmt::Write>(&self, f: &mut fmt::Formatter<W>) -> fmt::Result {
         f.write_str(self.word)?;
         for number in self.numbers() {
-            let n = *number;
-            write!(f, " {n}")?;
+            write!(f, " {number}")?;
         }
         Ok(())
     }
