@@ -3,14 +3,17 @@
 #![tactic(auto)]
 
 mod totals;
+mod walk;
 
-use anyhow::anyhow;
+use anyhow::bail;
 use blocks::{read_block, read_founding};
-use commands::{length, read};
+use commands::length;
 use std::io::Read;
-use std::{env, io};
+use std::{env, fmt, io};
+use terms::Fault;
 use totals::Totals;
-use wording::{Line, Report};
+use walk::Walk;
+use wording::Report;
 
 // How much to show of each founding and block: its commands and its totals, or its totals alone.
 #[derive(Clone, Copy)]
@@ -19,57 +22,65 @@ enum Style {
     Totals,
 }
 
+// The input is cut into a founding and blocks.
+#[derive(Clone, Copy)]
+enum Piece {
+    Founding,
+    Block,
+}
+
+impl Piece {
+    // The founding comes first.
+    fn at(start: usize) -> Piece {
+        if start == 0 {
+            Piece::Founding
+        } else {
+            Piece::Block
+        }
+    }
+
+    fn totals(self, bytes: &[u8]) -> Result<Totals, Fault> {
+        match self {
+            Piece::Founding => {
+                let founding = read_founding(bytes)?;
+                Ok(Totals::of_founding(founding.grants()))
+            }
+            Piece::Block => {
+                let block = read_block(bytes)?;
+                Ok(Totals::of_block(block.volumes(), block.transactions()))
+            }
+        }
+    }
+}
+
+impl fmt::Display for Piece {
+    fn fmt<W: fmt::Write>(&self, f: &mut fmt::Formatter<W>) -> fmt::Result {
+        match *self {
+            Piece::Founding => write!(f, "founding"),
+            Piece::Block => write!(f, "block"),
+        }
+    }
+}
+
 // A line for each command, up to the first that cannot be read.
 fn show_commands(rt: &HostRuntime, bytes: &[u8]) -> io::Result<()> {
-    let mut at = 0;
-    for _ in 0..bytes.len() {
-        let Ok(reading) = read(bytes, at) else {
-            break;
-        };
-        rt.println(Line {
-            place: at,
-            command: reading.command,
-        })?;
-        at = reading.next;
-        if at >= bytes.len() {
-            break;
-        }
+    for line in Walk::over(bytes) {
+        rt.println(line)?;
     }
     Ok(())
 }
 
-fn show_founding(rt: &HostRuntime, bytes: &[u8]) -> io::Result<()> {
-    match read_founding(bytes) {
-        Ok(founding) => {
-            let totals = Totals::of_founding(founding.grants());
-            rt.println(totals)
-        }
-        Err(fault) => rt.println(Report(fault)),
-    }
-}
-
-fn show_block(rt: &HostRuntime, bytes: &[u8]) -> io::Result<()> {
-    match read_block(bytes) {
-        Ok(block) => {
-            let totals = Totals::of_block(block.volumes(), block.transactions());
-            rt.println(totals)
-        }
-        Err(fault) => rt.println(Report(fault)),
-    }
-}
-
 // One founding or block.
-fn show_part(rt: &HostRuntime, style: Style, start: usize, bytes: &[u8]) -> io::Result<()> {
-    let what = if start == 0 { "founding" } else { "block" };
+fn show_piece(rt: &HostRuntime, style: Style, start: usize, bytes: &[u8]) -> io::Result<()> {
+    let piece = Piece::at(start);
     let n = bytes.len();
-    println!(rt; "{what} at byte {start} of the input, {n} bytes")?;
+    println!(rt; "{piece} at byte {start} of the input, {n} bytes")?;
     if let Style::Commands = style {
         show_commands(rt, bytes)?;
     }
-    if start == 0 {
-        show_founding(rt, bytes)
-    } else {
-        show_block(rt, bytes)
+    match piece.totals(bytes) {
+        Ok(totals) => rt.println(totals),
+        Err(fault) => rt.println(Report(fault)),
     }
 }
 
@@ -80,7 +91,7 @@ fn show_all(rt: &HostRuntime, style: Style, bytes: &[u8]) -> io::Result<()> {
         let rest = &bytes[start..];
         match length(rest) {
             Ok(n) => {
-                show_part(rt, style, start, &rest[0..n])?;
+                show_piece(rt, style, start, &rest[..n])?;
                 start += n;
             }
             Err(fault) => {
@@ -98,9 +109,9 @@ fn asked(rt: &HostRuntime) -> anyhow::Result<Style> {
     let mut style = Style::Commands;
     for arg in env::args(rt)?.skip(1) {
         if arg.as_str() != "--totals" {
-            return Err(anyhow!(
+            bail!(
                 "usage: inspect [--totals] < FILE: shows a founding and blocks; --totals leaves out the commands"
-            ));
+            );
         }
         style = Style::Totals;
     }

@@ -1,64 +1,47 @@
 // How many commands of each kind there are, and how much of each asset they move.
 use std::fmt;
+use std::num::Saturating;
 use terms::{Action, Grant, Transaction, Volume};
 
 // What is moved of one asset.
-#[derive(Clone, Copy)]
+#[derive(Clone, Copy, Default)]
 struct Moved {
-    founded: u64,
-    sold: u64,
-    offered: u64,
-    paid: u64,
+    founded: Saturating<u64>,
+    sold: Saturating<u64>,
+    offered: Saturating<u64>,
+    paid: Saturating<u64>,
 }
 
-#[derive(Clone, Copy)]
+#[derive(Clone, Copy, Default)]
 pub struct Totals {
     grants: usize,
     volumes: usize,
-    creates: usize,
-    pays: usize,
-    offers: usize,
-    cancels: usize,
+    creates: Saturating<usize>,
+    pays: Saturating<usize>,
+    offers: Saturating<usize>,
+    cancels: Saturating<usize>,
     moved: [Moved; 8],
 }
 
 impl Totals {
-    fn new() -> Totals {
-        let nothing = Moved {
-            founded: 0,
-            sold: 0,
-            offered: 0,
-            paid: 0,
-        };
-        Totals {
-            grants: 0,
-            volumes: 0,
-            creates: 0,
-            pays: 0,
-            offers: 0,
-            cancels: 0,
-            moved: [nothing; 8],
-        }
-    }
-
     pub fn of_founding(grants: &[Grant]) -> Totals {
-        let mut totals = Totals::new();
+        let mut totals = Totals::default();
         totals.grants = grants.len();
         for grant in grants {
-            for asset in 0..8 {
-                totals.moved[asset].founded = totals.moved[asset]
-                    .founded
-                    .saturating_add(grant.balances[asset]);
+            for (moved, balance) in totals.moved.iter_mut().zip(grant.balances.iter()) {
+                moved.founded += *balance;
             }
         }
         totals
     }
 
     pub fn of_block(volumes: &[Volume], transactions: &[Transaction]) -> Totals {
-        let mut totals = Totals::new();
+        let mut totals = Totals::default();
         totals.volumes = volumes.len();
         for volume in volumes {
-            totals.sell(volume.sold, volume.amount);
+            if let Some(moved) = totals.moved.get_mut(usize::from(volume.sold)) {
+                moved.sold += volume.amount;
+            }
         }
         for transaction in transactions {
             totals.add(transaction.action);
@@ -66,29 +49,20 @@ impl Totals {
         totals
     }
 
-    fn sell(&mut self, asset: u8, amount: u64) {
-        if asset < 8 {
-            let at = asset as usize;
-            self.moved[at].sold = self.moved[at].sold.saturating_add(amount);
-        }
-    }
-
     fn add(&mut self, action: Action) {
         match action {
-            Action::Create { .. } => self.creates = self.creates.saturating_add(1),
-            Action::Cancel { .. } => self.cancels = self.cancels.saturating_add(1),
+            Action::Create { .. } => self.creates += 1,
+            Action::Cancel { .. } => self.cancels += 1,
             Action::Pay { asset, amount, .. } => {
-                self.pays = self.pays.saturating_add(1);
-                if asset < 8 {
-                    let at = asset as usize;
-                    self.moved[at].paid = self.moved[at].paid.saturating_add(amount);
+                self.pays += 1;
+                if let Some(moved) = self.moved.get_mut(usize::from(asset)) {
+                    moved.paid += amount;
                 }
             }
             Action::Place { sold, amount, .. } => {
-                self.offers = self.offers.saturating_add(1);
-                if sold < 8 {
-                    let at = sold as usize;
-                    self.moved[at].offered = self.moved[at].offered.saturating_add(amount);
+                self.offers += 1;
+                if let Some(moved) = self.moved.get_mut(usize::from(sold)) {
+                    moved.offered += amount;
                 }
             }
         }
@@ -110,24 +84,15 @@ impl fmt::Display for Totals {
             f,
             "       in all {grants} G, {volumes} V, {creates} A, {pays} T, {offers} O, {cancels} C"
         )?;
-        for (asset, m) in moved.iter().enumerate() {
-            let Moved {
-                founded,
-                sold,
-                offered,
-                paid,
-            } = *m;
-            if founded > 0 {
-                write!(f, "; {founded} of asset {asset} founded")?;
-            }
-            if sold > 0 {
-                write!(f, "; {sold} of asset {asset} sold by volumes")?;
-            }
-            if offered > 0 {
-                write!(f, "; {offered} of asset {asset} newly offered")?;
-            }
-            if paid > 0 {
-                write!(f, "; {paid} of asset {asset} paid")?;
+        for (asset, moved) in moved.iter().enumerate() {
+            let told = [
+                (moved.founded, "founded"),
+                (moved.sold, "sold by volumes"),
+                (moved.offered, "newly offered"),
+                (moved.paid, "paid"),
+            ];
+            for (amount, how) in told.iter().filter(|(amount, _)| amount.0 > 0) {
+                write!(f, "; {amount} of asset {asset} {how}")?;
             }
         }
         Ok(())

@@ -10,7 +10,7 @@ use listing::{Line, list_stream, write_lines};
 use sorted_store::SortedStore;
 use std::alloc::{AllocError, Global};
 use std::io::Read;
-use terms::{Account, Fault};
+use terms::{Account, Cause};
 use trie_book::TrieBook;
 
 // The longest input that is listed.
@@ -22,29 +22,14 @@ const TOP: u32 = 4_294_967_295;
 
 const NODES: usize = 2_047;
 
-const BLANK: Account = Account {
-    number: 0,
-    floor: 0,
-    balances: [0; 8],
-};
-
-// What is said of input that is too long.
-const TOO_LONG: Fault = Fault {
-    number: 1,
-    first: 0,
-    second: 0,
-};
-
 // The lines that are printed of an input.
 fn lines_of(heap: Global, input: &[u8]) -> Result<Vec<Line>, AllocError>
     ensures { IfOk result (λ v. Shown input.now v.items) }
 {
     if input.len() > MOST_BYTES {
-        let mut lines = Vec::new(heap);
-        lines.push(Line::Refused(TOO_LONG))?;
-        return Ok(lines);
+        return Ok(vec![in heap; Line::Refused(Cause::TooManyBytes.into())]?);
     }
-    let mut slots = vec![in heap; BLANK; SLOTS]?;
+    let mut slots = vec![in heap; Account::default(); SLOTS]?;
     let book = TrieBook::new(heap, NODES)?;
     let store = SortedStore::new(slots.as_mut_slice(), TOP);
     let listing = list_stream(heap, store, book, input)?;
@@ -54,7 +39,8 @@ fn lines_of(heap: Global, input: &[u8]) -> Result<Vec<Line>, AllocError>
 fn run(rt: &HostRuntime) -> anyhow::Result<()> {
     let mut input = Vec::new(rt.alloc());
     // one byte more than the longest that is listed tells that there is too much
-    rt.stdin().take(65_537).read_to_end(&mut input)?;
+    let most = MOST_BYTES as u64 + 1;
+    rt.stdin().take(most).read_to_end(&mut input)?;
     let lines = lines_of(rt.alloc(), input.as_slice())?;
     write_lines(rt.alloc(), rt.stdout(), lines.as_slice())?;
     Ok(())

@@ -1,8 +1,12 @@
 // The arguments: a file, and in any order options with their values. Assumes nothing of the words.
 ghost use Rattle.std.specs.Prelude.{◌≤◌, IfSome};
 
-use crate::settings::{BookMake, MOST, Settings, StoreMake};
+use crate::settings::Settings;
 use std::fmt;
+use std::str::FromStr;
+
+// As many accounts as may be asked for, and as many offers.
+const MOST: u32 = 65_536;
 
 pub const USAGE: &str =
     "usage: replay FILE [--store sorted|hashed] [--book trie|table] [--accounts N] [--top N] [--offers N]";
@@ -45,23 +49,25 @@ pub enum Slip<'a> {
 }
 
 pub fn asks_help(words: &[String]) -> bool {
-    for word in words {
-        if word.as_str() == "--help" {
-            return true;
-        }
-    }
-    false
+    words.iter().any(|word| word.as_str() == "--help")
 }
 
-// The option of this name.
-fn option_named(word: &str) -> Option<Choice> {
-    match word {
-        "--store" => Some(Choice::Store),
-        "--book" => Some(Choice::Book),
-        "--accounts" => Some(Choice::Accounts),
-        "--top" => Some(Choice::Top),
-        "--offers" => Some(Choice::Offers),
-        _ => None,
+// A word that names no option.
+#[derive(Clone, Copy)]
+pub struct NoChoice;
+
+impl FromStr for Choice {
+    type Err = NoChoice;
+
+    fn from_str(word: &str) -> Result<Self, NoChoice> {
+        match word {
+            "--store" => Ok(Choice::Store),
+            "--book" => Ok(Choice::Book),
+            "--accounts" => Ok(Choice::Accounts),
+            "--top" => Ok(Choice::Top),
+            "--offers" => Ok(Choice::Offers),
+            _ => Err(NoChoice),
+        }
     }
 }
 
@@ -69,67 +75,42 @@ fn option_named(word: &str) -> Option<Choice> {
 fn count(word: &str) -> Option<u32>
     ensures { IfSome result (λ n. n ≤ 65536) }
 {
-    match word.parse::<u32>() {
-        Ok(n) => if n <= MOST { Some(n) } else { None },
-        Err(_) => None,
-    }
+    word.parse::<u32>().ok().filter(|n| *n <= MOST)
 }
 
-// The settings with one of them chosen; nothing where the value is wrong.
-fn chosen(settings: Settings, choice: Choice, word: &str) -> Option<Settings> {
-    let mut settings = settings;
-    match choice {
-        Choice::Store => {
-            settings.store = match word {
-                "sorted" => StoreMake::Sorted,
-                "hashed" => StoreMake::Hashed,
-                _ => return None,
-            };
+impl Settings {
+    // Chooses one of them; nothing where the value is wrong.
+    fn choose(&mut self, choice: Choice, value: &str) -> Option<()> {
+        match choice {
+            Choice::Store => self.store = value.parse().ok()?,
+            Choice::Book => self.book = value.parse().ok()?,
+            Choice::Accounts => self.accounts = count(value)?,
+            Choice::Top => self.top = value.parse().ok()?,
+            Choice::Offers => self.offers = count(value)?,
         }
-        Choice::Book => {
-            settings.book = match word {
-                "trie" => BookMake::Trie,
-                "table" => BookMake::Table,
-                _ => return None,
-            };
-        }
-        Choice::Accounts => settings.accounts = count(word)?,
-        Choice::Top => settings.top = word.parse::<u32>().ok()?,
-        Choice::Offers => settings.offers = count(word)?,
+        Some(())
     }
-    Some(settings)
 }
 
 pub fn parse<'a>(words: &'a [String]) -> Result<Arguments<'a>, Slip<'a>> {
-    let mut settings = Settings::usual();
+    let mut settings = Settings::default();
     let mut file = None;
-    let mut due = None;
-    for word in words {
-        let word = word.as_str();
-        if let Some(option) = due {
-            let Some(now) = chosen(settings, option, word) else {
-                return Err(Slip::WrongValue(option, word));
-            };
-            settings = now;
-            due = None;
-        } else if word.starts_with("--") {
-            due = option_named(word);
-            if due.is_none() {
-                return Err(Slip::Unknown(word));
-            }
+    let mut words = words.iter().map(|word| word.as_str());
+    while let Some(word) = words.next() {
+        if word.starts_with("--") {
+            let choice = word.parse().map_err(|_| Slip::Unknown(word))?;
+            let value = words.next().ok_or(Slip::NoValue(choice))?;
+            settings
+                .choose(choice, value)
+                .ok_or(Slip::WrongValue(choice, value))?;
         } else if file.is_some() {
             return Err(Slip::SecondFile(word));
         } else {
             file = Some(word);
         }
     }
-    if let Some(option) = due {
-        return Err(Slip::NoValue(option));
-    }
-    match file {
-        Some(file) => Ok(Arguments { file, settings }),
-        None => Err(Slip::NoFile),
-    }
+    let file = file.ok_or(Slip::NoFile)?;
+    Ok(Arguments { file, settings })
 }
 
 impl fmt::Display for Choice {

@@ -7,77 +7,84 @@ mod arguments;
 mod replaying;
 mod settings;
 
-use arguments::{Arguments, HELP, USAGE, asks_help, parse};
-use listing::write_lines;
+use arguments::{Arguments, HELP, Slip, USAGE, asks_help, parse};
+use listing::{Listing, write_lines};
+use programs::{Failure, end, read_file, words};
 use replaying::replay;
-use std::fmt::Display;
+use std::alloc::AllocError;
 use std::process::ExitCode;
-use std::{env, fs};
+use std::{fmt, io};
 
-// The program has failed, and has said why.
-#[derive(Clone, Copy)]
-struct Failed;
-
-// Says on standard error what went wrong.
-fn fail(rt: &HostRuntime, text: impl Display + Drop) -> Failed {
-    let _ = rt.eprintln(text);
-    Failed
+// Why there is no listing.
+#[derive(Drop)]
+enum NoListing<'a> {
+    Failed(Failure<'a>),
+    Slipped(Slip<'a>),
+    // the listing cannot be written
+    Unwritten,
 }
 
-// The words after the program's name.
-fn words(rt: &HostRuntime) -> Result<Vec<String>, Failed> {
-    match env::args(rt) {
-        Ok(words) => match words.skip(1).collect(rt.alloc()) {
-            Ok(words) => Ok(words),
-            Err(_) => Err(fail(rt, "replay: there is not enough memory")),
-        },
-        Err(error) => Err(fail(
-            rt,
-            format_args!("replay: the arguments cannot be read: {error}"),
-        )),
+impl<'a> From<Failure<'a>> for NoListing<'a> {
+    fn from(failure: Failure<'a>) -> Self {
+        NoListing::Failed(failure)
+    }
+}
+
+impl<'a> From<AllocError> for NoListing<'a> {
+    fn from(_: AllocError) -> Self {
+        NoListing::Failed(Failure::NoMemory)
+    }
+}
+
+impl<'a> From<Slip<'a>> for NoListing<'a> {
+    fn from(slip: Slip<'a>) -> Self {
+        NoListing::Slipped(slip)
+    }
+}
+
+impl<'a> From<io::Error> for NoListing<'a> {
+    fn from(_: io::Error) -> Self {
+        NoListing::Unwritten
+    }
+}
+
+impl<'a> fmt::Display for NoListing<'a> {
+    fn fmt<W: fmt::Write>(&self, f: &mut fmt::Formatter<W>) -> fmt::Result {
+        write!(f, "replay: ")?;
+        match self {
+            NoListing::Failed(failure) => write!(f, "{failure}"),
+            NoListing::Slipped(slip) => write!(f, "{slip}\n{USAGE}"),
+            NoListing::Unwritten => write!(f, "the listing cannot be written"),
+        }
     }
 }
 
 // Replays the file, and prints the listing and the counts.
-fn replay_file(rt: &HostRuntime, arguments: Arguments<'_>) -> Result<(), Failed> {
+fn replay_file<'a>(rt: &HostRuntime, arguments: Arguments<'a>) -> Result<(), NoListing<'a>> {
     let Arguments { file, settings } = arguments;
-    let bytes = match fs::read(rt, file) {
-        Ok(bytes) => bytes,
-        Err(error) => {
-            return Err(fail(
-                rt,
-                format_args!(
-                    "replay: {file} cannot be read ({error}): name a file that you may read, with a founding and blocks"
-                ),
-            ));
-        }
-    };
-    let Ok(listing) = replay(rt.alloc(), settings, bytes.as_slice()) else {
-        return Err(fail(rt, "replay: there is not enough memory"));
-    };
-    let lines = write_lines(rt.alloc(), rt.stdout(), listing.lines.as_slice());
-    let counts = write_lines(rt.alloc(), rt.stdout(), &[listing.counts]);
-    match (lines, counts) {
-        (Ok(()), Ok(())) => Ok(()),
-        (_, _) => Err(fail(rt, "replay: the listing cannot be written")),
-    }
+    let bytes = read_file(
+        rt,
+        file,
+        "a file that you may read, with a founding and blocks",
+    )?;
+    let Listing { lines, counts } = replay(rt.alloc(), settings, bytes.as_slice())?;
+    write_lines(rt.alloc(), rt.stdout(), lines.as_slice())?;
+    write_lines(rt.alloc(), rt.stdout(), &[counts])?;
+    Ok(())
 }
 
-fn run(rt: &HostRuntime) -> Result<(), Failed> {
-    let words = words(rt)?;
-    if asks_help(words.as_slice()) {
+fn run<'a>(rt: &HostRuntime, words: &'a [String]) -> Result<ExitCode, NoListing<'a>> {
+    if asks_help(words) {
         let _ = println!(rt; "{USAGE}\n{HELP}");
-        return Ok(());
+    } else {
+        replay_file(rt, parse(words)?)?;
     }
-    match parse(words.as_slice()) {
-        Ok(arguments) => replay_file(rt, arguments),
-        Err(slip) => Err(fail(rt, format_args!("replay: {slip}\n{USAGE}"))),
-    }
+    Ok(ExitCode::SUCCESS)
 }
 
 fn main(rt: HostRuntime) -> ExitCode {
-    match run(&rt) {
-        Ok(()) => ExitCode::SUCCESS,
-        Err(Failed) => ExitCode::FAILURE,
+    match words(&rt) {
+        Ok(words) => end(&rt, run(&rt, words.as_slice())),
+        Err(failure) => end(&rt, Err(NoListing::from(failure))),
     }
 }

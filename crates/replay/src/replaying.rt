@@ -9,43 +9,26 @@ use listing::{Listing, list_stream};
 use ordered_book::OrderedBook;
 use sorted_store::SortedStore;
 use std::alloc::{AllocError, Global};
-use terms::{Account, Key, Offer};
+use terms::{Account, Offer};
 use trie_book::TrieBook;
 
-const BLANK: Account = Account {
-    number: 0,
-    floor: 0,
-    balances: [0; 8],
-};
-
-const NO_OFFER: Offer = Offer {
-    key: Key {
-        sold: 0,
-        bought: 0,
-        limit: 0,
-        account: 0,
-        sequence: 0,
-    },
-    amount: 0,
-};
-
-// Over this store and an empty book.
+// Over this store and an empty book of the chosen make and size.
 fn over_store<S: AccountStore + Drop>(
     heap: Global,
+    settings: Settings,
     store: S,
-    book: BookMake,
-    offers: usize,
     bytes: &[u8],
 ) -> Result<Listing, AllocError>
-    ensures { IfOk result (λ x. Outcome (S.store store) (record { capacity = min offers 65536; offers = [] }) bytes.now x.lines.items x.counts) }
+    ensures { IfOk result (λ x. Outcome (S.store store) (record { capacity = min settings.offers 65536; offers = [] }) bytes.now x.lines.items x.counts) }
 {
-    match book {
+    let offers = settings.offers as usize;
+    match settings.book {
         BookMake::Trie => {
             let trie = TrieBook::new(heap, offers.saturating_mul(2).saturating_sub(1))?;
             list_stream(heap, store, trie, bytes)
         }
         BookMake::Table => {
-            let mut slots = vec![in heap; NO_OFFER; offers]?;
+            let mut slots = vec![in heap; Offer::default(); offers]?;
             let table = OrderedBook::new(slots.as_mut_slice());
             list_stream(heap, store, table, bytes)
         }
@@ -57,17 +40,16 @@ pub fn replay(heap: Global, settings: Settings, bytes: &[u8]) -> Result<Listing,
     ensures { IfOk result (λ x. Outcome (record { capacity = min settings.accounts 65536; top = settings.top; accounts = [] }) (record { capacity = min settings.offers 65536; offers = [] }) bytes.now x.lines.items x.counts) }
 {
     let n = settings.accounts as usize;
-    let offers = settings.offers as usize;
-    let mut slots = vec![in heap; BLANK; n]?;
+    let mut slots = vec![in heap; Account::default(); n]?;
     match settings.store {
         StoreMake::Sorted => {
             let store = SortedStore::new(slots.as_mut_slice(), settings.top);
-            over_store(heap, store, settings.book, offers, bytes)
+            over_store(heap, settings, store, bytes)
         }
         StoreMake::Hashed => {
-            let mut index = vec![in heap; Entry { number: 0, slot: 0 }; n.saturating_mul(3)]?;
+            let mut index = vec![in heap; Entry::default(); n.saturating_mul(3)]?;
             let store = HashedStore::new(slots.as_mut_slice(), index.as_mut_slice(), settings.top);
-            over_store(heap, store, settings.book, offers, bytes)
+            over_store(heap, settings, store, bytes)
         }
     }
 }

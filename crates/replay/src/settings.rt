@@ -1,5 +1,9 @@
 // Which store and which book a replica has, and their sizes.
 ghost use Rattle.std.specs.Prelude.{◌≡◌};
+ghost use Rattle.replay.specs.declared.settings.StoreMake.TheVariants.{Sorted};
+ghost use Rattle.replay.specs.declared.settings.BookMake.TheVariants.{Trie};
+
+use std::str::FromStr;
 
 #[derive(Clone, Copy)]
 pub enum StoreMake {
@@ -13,8 +17,33 @@ pub enum BookMake {
     Table,
 }
 
-// As many accounts as may be asked for, and as many offers.
-pub const MOST: u32 = 65_536;
+// A word that names no make.
+#[derive(Clone, Copy)]
+pub struct NoMake;
+
+impl FromStr for StoreMake {
+    type Err = NoMake;
+
+    fn from_str(word: &str) -> Result<Self, NoMake> {
+        match word {
+            "sorted" => Ok(StoreMake::Sorted),
+            "hashed" => Ok(StoreMake::Hashed),
+            _ => Err(NoMake),
+        }
+    }
+}
+
+impl FromStr for BookMake {
+    type Err = NoMake;
+
+    fn from_str(word: &str) -> Result<Self, NoMake> {
+        match word {
+            "trie" => Ok(BookMake::Trie),
+            "table" => Ok(BookMake::Table),
+            _ => Err(NoMake),
+        }
+    }
+}
 
 #[derive(Clone, Copy)]
 pub struct Settings {
@@ -25,11 +54,11 @@ pub struct Settings {
     pub offers: u32,
 }
 
-impl Settings {
-    // What holds where nothing is said.
-    pub fn usual() -> Settings
-        ensures { result ≡ record { store = StoreMake.Sorted; book = BookMake.Trie; accounts = 256; top = 4294967295; offers = 1024 } }
-    {
+// What holds where nothing is said.
+impl Default for Settings {
+    ghost is_default = { λ s. s ≡ record { store = Sorted; book = Trie; accounts = 256; top = 4294967295; offers = 1024 } };
+
+    fn default() -> Self {
         Settings {
             store: StoreMake::Sorted,
             book: BookMake::Trie,

@@ -1,20 +1,16 @@
 -- What an account store and an offer book answer to each command of the script. Assumes nothing.
-use Rattle.std.specs.Prelude.{◌≡◌, ℕ, List, [], ◌∷◌, length, Ok, Err, Result, MatchResult, nat_lt}
-use Rattle.terms.specs.declared.Fault.{Fault}
+use Rattle.std.specs.Prelude.{◌≡◌, ℕ, List, [], ◌∷◌, length, MatchResult, nat_lt}
 use Rattle.terms.specs.Order.{name, place, words, above}
 use Rattle.terms.specs.Holdings.{Store, Book, standing, floor_at, balance_at, free_of, amount_at, offered_of, up_to}
 use Rattle.accounts.specs.Changes.{open_answer, grant_answer, balance_answer, floor_answer, Opened, Granted, BalanceSet, FloorSet}
 use Rattle.offers.specs.Changes.{place_answer, reduce_answer, replace_answer, Placed, Reduced, Replaced}
+use Rattle.store_script.specs.Outcome.{outcome}
 use Rattle.store_script.specs.declared.Answer.{Answer}
-use Rattle.store_script.specs.declared.Answer.TheVariants.{Done, Refused, Flag, Number, Offer, Nothing}
+use Rattle.store_script.specs.declared.Answer.TheVariants.{Flag, Number, Offer, Nothing}
 use Rattle.store_script.specs.declared.AccountAsk.{AccountAsk}
 use Rattle.store_script.specs.declared.AccountAsk.TheVariants as account
 use Rattle.store_script.specs.declared.OfferAsk.{OfferAsk}
 use Rattle.store_script.specs.declared.OfferAsk.TheVariants as offer
-
-abbrev pub outcome : Result (Unit {0}) Fault → Answer
-outcome (Ok x) = Done
-outcome (Err f) = Refused f
 
 -- the lowest number above, or nothing
 abbrev pub number_found : List ℕ → Answer

@@ -1,4 +1,7 @@
 // What is answered to a command. Assumes nothing.
+ghost use Rattle.std.specs.Prelude.{◌≡◌};
+ghost use Rattle.store_script.specs.Outcome.{outcome};
+
 use std::fmt;
 use terms::{Fault, Key};
 
@@ -12,43 +15,28 @@ pub enum Answer {
     Nothing,
 }
 
-impl fmt::Display for Answer {
-    fn fmt<W: fmt::Write>(&self, f: &mut fmt::Formatter<W>) -> fmt::Result {
-        match *self {
-            Answer::Refused(fault) => write_refusal(f, fault),
-            Answer::Number(n) => write!(f, "{n}"),
-            Answer::Offer(key) => write_key(f, key),
-            other => f.write_str(word_of(other)),
+// A command that only changes something is done or refused.
+impl From<Result<(), Fault>> for Answer {
+    ghost from_gives = { λ r answer. answer ≡ outcome r };
+
+    fn from(outcome: Result<(), Fault>) -> Answer {
+        match outcome {
+            Ok(()) => Answer::Done,
+            Err(fault) => Answer::Refused(fault),
         }
     }
 }
 
-// An answer without numbers.
-fn word_of(answer: Answer) -> &'static str {
-    match answer {
-        Answer::Done => "done",
-        Answer::Flag(true) => "yes",
-        Answer::Flag(false) => "no",
-        _ => "none",
+impl fmt::Display for Answer {
+    fn fmt<W: fmt::Write>(&self, f: &mut fmt::Formatter<W>) -> fmt::Result {
+        match *self {
+            Answer::Done => write!(f, "done"),
+            Answer::Refused(fault) => write!(f, "refused {fault}"),
+            Answer::Flag(true) => write!(f, "yes"),
+            Answer::Flag(false) => write!(f, "no"),
+            Answer::Number(n) => write!(f, "{n}"),
+            Answer::Offer(key) => write!(f, "{key}"),
+            Answer::Nothing => write!(f, "none"),
+        }
     }
-}
-
-fn write_refusal<W: fmt::Write>(f: &mut fmt::Formatter<W>, fault: Fault) -> fmt::Result {
-    let Fault {
-        number,
-        first,
-        second,
-    } = fault;
-    write!(f, "refused {number} {first} {second}")
-}
-
-fn write_key<W: fmt::Write>(f: &mut fmt::Formatter<W>, key: Key) -> fmt::Result {
-    let Key {
-        sold,
-        bought,
-        limit,
-        account,
-        sequence,
-    } = key;
-    write!(f, "{sold} {bought} {limit} {account} {sequence}")
 }

@@ -5,11 +5,8 @@
 mod answer;
 mod ask;
 mod lines;
-mod numbers;
-mod operands;
 mod words;
 
 pub use answer::Answer;
 pub use ask::{AccountAsk, Ask, OfferAsk};
-pub use lines::{Command, Line, parse};
-pub use operands::Operands;
+pub use lines::{Command, Line, Sizes, Usage, parse};

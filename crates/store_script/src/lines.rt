@@ -1,173 +1,227 @@
 // Lines to commands. Assumes nothing of a line.
-ghost use Rattle.std.specs.Prelude.{◌≡◌, min};
+ghost use Rattle.std.specs.Prelude.{◌≡◌, ◌+◌, OnSome};
+ghost use Rattle.arrayvec.specs.ArrayVec.{array_vec_len};
 
 use crate::ask::{AccountAsk, Ask, OfferAsk};
-use crate::numbers::write_numbers;
-use crate::operands::Operands;
 use crate::words::{AccountVerb, NO_WORD, OfferVerb, Verb, find};
+use arrayvec::ArrayVec;
 use std::fmt;
 use std::str::SplitAsciiWhitespace;
 use terms::Key;
 
+// As many operands as a command may have.
+const MOST: usize = 11;
+
+// As many slots as a store may be made with here.
+const MOST_SLOTS: usize = 100_000;
+
 // A command as it is written and as what it asks.
-#[derive(Clone, Copy)]
+#[derive(Drop)]
 pub struct Command<'a> {
     pub word: &'a str,
-    pub operands: Operands,
+    pub operands: ArrayVec<u64, MOST>,
     pub ask: Ask,
 }
 
+// How many slots the stores and books have, and the highest number that an account may have.
+#[derive(Clone, Copy, PartialEq, Eq)]
+pub struct Sizes {
+    pub slots: usize,
+    pub top: u32,
+}
+
+#[derive(Drop)]
 pub enum Line<'a> {
     // empty, or a remark after #
     Blank,
-    // start again, with empty stores and books
-    Fresh { slots: usize, top: u32 },
+    // start again, with empty stores and books of these sizes
+    Fresh(Sizes),
     Command(Command<'a>),
-    // no command; what to write in its place
-    Wrong(&'static str),
 }
 
-pub fn parse<'a>(line: &'a str) -> Line<'a> {
+// What to write in place of a line that is no command.
+#[derive(Clone, Copy)]
+pub struct Usage(pub &'static str);
+
+pub fn parse<'a>(line: &'a str) -> Result<Line<'a>, Usage> {
     let mut words = line.split_ascii_whitespace();
     let Some(first) = words.next() else {
-        return Line::Blank;
+        return Ok(Line::Blank);
     };
     if first.starts_with('#') {
-        return Line::Blank;
+        return Ok(Line::Blank);
     }
-    let Some(word) = find(first) else {
-        return Line::Wrong(NO_WORD);
-    };
-    match read_operands(words) {
-        Some(operands) if operands.fit(word.limits) => command_of(first, word.verb, operands),
-        _ => Line::Wrong(word.usage),
-    }
+    let word = find(first).ok_or(Usage(NO_WORD))?;
+    let operands = read_operands(words).ok_or(Usage(word.usage))?;
+    line_of(first, word.verb, operands).ok_or(Usage(word.usage))
 }
 
 // The words as numbers; none where one is no number of 64 bits, or where there are more than a command may have.
-fn read_operands(words: SplitAsciiWhitespace) -> Option<Operands> {
-    let mut operands = Operands {
-        numbers: [0; 11],
-        count: 0,
-    };
+fn read_operands(words: SplitAsciiWhitespace) -> Option<ArrayVec<u64, MOST>> {
+    let mut operands = ArrayVec::new();
     for word in words {
-        let Ok(n) = word.parse::<u64>() else {
-            return None;
-        };
-        if !operands.push(n) {
-            return None;
-        }
+        add_operand(&mut operands, word)?;
     }
     Some(operands)
 }
 
-// The command of a verb and operands that fit it.
-fn command_of<'a>(word: &'a str, verb: Verb, operands: Operands) -> Line<'a> {
-    let n = &operands.numbers;
+fn add_operand(operands: &mut ArrayVec<u64, MOST>, word: &str) -> Option<()>
+    ensures { OnSome result (array_vec_len operands.new ≡ array_vec_len operands.old + 1) }
+{
+    let number = word.parse::<u64>().ok()?;
+    operands.try_push(number).ok()
+}
+
+// What a verb and its operands say; none where it does not take such operands.
+fn line_of<'a>(word: &'a str, verb: Verb, operands: ArrayVec<u64, MOST>) -> Option<Line<'a>> {
+    let numbers = operands.as_slice();
     let ask = match verb {
-        Verb::Fresh => {
-            return Line::Fresh {
-                slots: word_of(n[0]) as usize,
-                top: word_of(n[1]),
-            };
-        }
-        Verb::Accounts(v) => Ask::Accounts(account_ask(v, n)),
-        Verb::Offers(v) => Ask::Offers(offer_ask(v, n)),
+        Verb::Fresh => return fresh(numbers),
+        Verb::Accounts(v) => Ask::Accounts(account_ask(v, numbers)?),
+        Verb::Offers(v) => Ask::Offers(offer_ask(v, numbers)?),
     };
-    Line::Command(Command {
+    Some(Line::Command(Command {
         word,
         operands,
         ask,
-    })
+    }))
 }
 
-fn account_ask(verb: AccountVerb, n: &[u64; 11]) -> AccountAsk {
-    let number = word_of(n[0]);
-    let asset = byte_of(n[1]);
-    match verb {
-        AccountVerb::Open => AccountAsk::Open { number },
-        AccountVerb::OpenWith => {
-            let [_, a, b, c, d, e, f, g, h, _, _] = *n;
-            AccountAsk::OpenWith {
-                number,
-                balances: [a, b, c, d, e, f, g, h],
+fn fresh<'a>(numbers: &[u64]) -> Option<Line<'a>> {
+    let [slots, top] = numbers else {
+        return None;
+    };
+    let slots = fit::<usize>(slots)?;
+    if slots > MOST_SLOTS {
+        return None;
+    }
+    let top = fit(top)?;
+    Some(Line::Fresh(Sizes { slots, top }))
+}
+
+fn account_ask(verb: AccountVerb, numbers: &[u64]) -> Option<AccountAsk> {
+    let ask = match (verb, numbers) {
+        (AccountVerb::Open, [number]) => AccountAsk::Open {
+            number: fit(number)?,
+        },
+        (AccountVerb::OpenWith, [number, a, b, c, d, e, f, g, h]) => AccountAsk::OpenWith {
+            number: fit(number)?,
+            balances: [*a, *b, *c, *d, *e, *f, *g, *h],
+        },
+        (AccountVerb::SetBalance, [number, asset, value]) => AccountAsk::SetBalance {
+            number: fit(number)?,
+            asset: fit(asset)?,
+            value: *value,
+        },
+        (AccountVerb::SetFloor, [number, value]) => AccountAsk::SetFloor {
+            number: fit(number)?,
+            value: fit(value)?,
+        },
+        (AccountVerb::Stands, [number]) => AccountAsk::Stands {
+            number: fit(number)?,
+        },
+        (AccountVerb::Balance, [number, asset]) => AccountAsk::Balance {
+            number: fit(number)?,
+            asset: fit(asset)?,
+        },
+        (AccountVerb::Floor, [number]) => AccountAsk::Floor {
+            number: fit(number)?,
+        },
+        (AccountVerb::Free, [asset]) => AccountAsk::Free { asset: fit(asset)? },
+        (AccountVerb::Count, []) => AccountAsk::Count,
+        (AccountVerb::Capacity, []) => AccountAsk::Capacity,
+        (AccountVerb::Top, []) => AccountAsk::Top,
+        (AccountVerb::Next, [number]) => AccountAsk::Next {
+            number: fit(number)?,
+        },
+        _ => return None,
+    };
+    Some(ask)
+}
+
+fn offer_ask(verb: OfferVerb, numbers: &[u64]) -> Option<OfferAsk> {
+    let ask = match (verb, numbers) {
+        (OfferVerb::Place, [key @ .., units]) => OfferAsk::Place {
+            key: key_of(key)?,
+            units: *units,
+        },
+        (OfferVerb::Reduce, [key @ .., units]) => OfferAsk::Reduce {
+            key: key_of(key)?,
+            units: *units,
+        },
+        (OfferVerb::Replace, [keys @ .., units]) => {
+            let (old, new) = keys.split_at_checked(5)?;
+            OfferAsk::Replace {
+                old: key_of(old)?,
+                new: key_of(new)?,
+                units: *units,
             }
         }
-        AccountVerb::SetBalance => AccountAsk::SetBalance {
-            number,
-            asset,
-            value: n[2],
+        (OfferVerb::Amount, key) => OfferAsk::Amount { key: key_of(key)? },
+        (OfferVerb::Offered, [sold]) => OfferAsk::Offered { sold: fit(sold)? },
+        (OfferVerb::UpTo, [sold, bought, limit]) => OfferAsk::UpTo {
+            sold: fit(sold)?,
+            bought: fit(bought)?,
+            limit: fit(limit)?,
         },
-        AccountVerb::SetFloor => AccountAsk::SetFloor {
-            number,
-            value: word_of(n[1]),
-        },
-        AccountVerb::Stands => AccountAsk::Stands { number },
-        AccountVerb::Balance => AccountAsk::Balance { number, asset },
-        AccountVerb::Floor => AccountAsk::Floor { number },
-        AccountVerb::Free => AccountAsk::Free {
-            asset: byte_of(n[0]),
-        },
-        AccountVerb::Count => AccountAsk::Count,
-        AccountVerb::Capacity => AccountAsk::Capacity,
-        AccountVerb::Top => AccountAsk::Top,
-        AccountVerb::Next => AccountAsk::Next { number },
-    }
-}
-
-fn offer_ask(verb: OfferVerb, n: &[u64; 11]) -> OfferAsk {
-    let key = key_of(n[0], n[1], n[2], n[3], n[4]);
-    let units = n[5];
-    match verb {
-        OfferVerb::Place => OfferAsk::Place { key, units },
-        OfferVerb::Reduce => OfferAsk::Reduce { key, units },
-        OfferVerb::Replace => OfferAsk::Replace {
-            old: key,
-            new: key_of(n[5], n[6], n[7], n[8], n[9]),
-            units: n[10],
-        },
-        OfferVerb::Amount => OfferAsk::Amount { key },
-        OfferVerb::Offered => OfferAsk::Offered { sold: key.sold },
-        OfferVerb::UpTo => OfferAsk::UpTo {
-            sold: key.sold,
-            bought: key.bought,
-            limit: key.limit,
-        },
-        OfferVerb::Count => OfferAsk::Count,
-        OfferVerb::Capacity => OfferAsk::Capacity,
-        OfferVerb::Next => OfferAsk::Next { key },
-    }
+        (OfferVerb::Count, []) => OfferAsk::Count,
+        (OfferVerb::Capacity, []) => OfferAsk::Capacity,
+        (OfferVerb::Next, key) => OfferAsk::Next { key: key_of(key)? },
+        _ => return None,
+    };
+    Some(ask)
 }
 
 // The key by its five numbers.
-fn key_of(sold: u64, bought: u64, limit: u64, account: u64, sequence: u64) -> Key
-    ensures { result ≡ record { sold = min sold 255; bought = min bought 255; limit = min limit 4294967295; account = min account 4294967295; sequence = min sequence 4294967295 } }
+fn key_of(numbers: &[u64]) -> Option<Key> {
+    let [sold, bought, limit, account, sequence] = numbers else {
+        return None;
+    };
+    Some(Key {
+        sold: fit(sold)?,
+        bought: fit(bought)?,
+        limit: fit(limit)?,
+        account: fit(account)?,
+        sequence: fit(sequence)?,
+    })
+}
+
+// The number in a smaller type, if it fits there.
+fn fit<T: TryFrom<u64>>(number: &u64) -> Option<T>
+where
+    T::Error: Drop,
 {
-    Key {
-        sold: byte_of(sold),
-        bought: byte_of(bought),
-        limit: word_of(limit),
-        account: word_of(account),
-        sequence: word_of(sequence),
+    T::try_from(*number).ok()
+}
+
+impl fmt::Display for Sizes {
+    fn fmt<W: fmt::Write>(&self, f: &mut fmt::Formatter<W>) -> fmt::Result {
+        let Sizes { slots, top } = *self;
+        write!(f, "{slots} {top}")
     }
 }
 
-// A number in 8 or 32 bits; the largest such where it is larger, which no operand that fits is.
-fn byte_of(n: u64) -> u8
-    ensures { result ≡ min n 255 }
-{
-    n.min(255) as u8
+impl fmt::Display for Usage {
+    fn fmt<W: fmt::Write>(&self, f: &mut fmt::Formatter<W>) -> fmt::Result {
+        f.write_str(self.0)
+    }
 }
 
-fn word_of(n: u64) -> u32
-    ensures { result ≡ min n 4294967295 }
-{
-    n.min(4_294_967_295) as u32
+impl Command<'_> {
+    // The numbers after its word.
+    pub fn numbers(&self) -> &[u64]
+        ensures { result.now ≡ self.now.operands.items }
+    {
+        self.operands.as_slice()
+    }
 }
 
 impl fmt::Display for Command<'_> {
     fn fmt<W: fmt::Write>(&self, f: &mut fmt::Formatter<W>) -> fmt::Result {
         f.write_str(self.word)?;
-        write_numbers(f, self.operands.as_slice())
+        for number in self.numbers() {
+            write!(f, " {number}")?;
+        }
+        Ok(())
     }
 }

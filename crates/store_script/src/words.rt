@@ -38,172 +38,131 @@ pub enum Verb {
     Offers(OfferVerb),
 }
 
-// A word, what it means, the largest value of each of its operands, and what to write in place of a line that begins
-// with it and is no command.
+// A word, what it means, and what to write in place of a line that begins with it and is no command.
 #[derive(Clone, Copy)]
 pub struct Word {
     pub name: &'static str,
     pub verb: Verb,
-    pub limits: &'static [u64],
     pub usage: &'static str,
 }
 
 pub const NO_WORD: &str =
     "no such word; the words are fresh, open, open-with, set-balance, set-floor, stands, balance, floor, free, accounts, account-room, top, next-account, place, reduce, replace, amount, offered, up-to, offers, offer-room, next-offer";
 
-// As many slots as a store may be made with here.
-const SLOTS: u64 = 100_000;
-
-const ASSET: u64 = 255;
-
-const NUMBER: u64 = 4_294_967_295;
-
-const AMOUNT: u64 = 18_446_744_073_709_551_615;
-
 const WORDS: [Word; 22] = [
     Word {
         name: "fresh",
         verb: Verb::Fresh,
-        limits: &[SLOTS, NUMBER],
         usage: "write fresh SLOTS TOP, with at most 100000 slots and a top up to 4294967295",
     },
     Word {
         name: "open",
         verb: Verb::Accounts(AccountVerb::Open),
-        limits: &[NUMBER],
         usage: "write open NUMBER, a number up to 4294967295",
     },
     Word {
         name: "open-with",
         verb: Verb::Accounts(AccountVerb::OpenWith),
-        limits: &[
-            NUMBER, AMOUNT, AMOUNT, AMOUNT, AMOUNT, AMOUNT, AMOUNT, AMOUNT, AMOUNT,
-        ],
         usage: "write open-with NUMBER and eight balances",
     },
     Word {
         name: "set-balance",
         verb: Verb::Accounts(AccountVerb::SetBalance),
-        limits: &[NUMBER, ASSET, AMOUNT],
         usage: "write set-balance NUMBER ASSET VALUE, an asset up to 255",
     },
     Word {
         name: "set-floor",
         verb: Verb::Accounts(AccountVerb::SetFloor),
-        limits: &[NUMBER, NUMBER],
         usage: "write set-floor NUMBER VALUE, numbers up to 4294967295",
     },
     Word {
         name: "stands",
         verb: Verb::Accounts(AccountVerb::Stands),
-        limits: &[NUMBER],
         usage: "write stands NUMBER, a number up to 4294967295",
     },
     Word {
         name: "balance",
         verb: Verb::Accounts(AccountVerb::Balance),
-        limits: &[NUMBER, ASSET],
         usage: "write balance NUMBER ASSET, an asset up to 255",
     },
     Word {
         name: "floor",
         verb: Verb::Accounts(AccountVerb::Floor),
-        limits: &[NUMBER],
         usage: "write floor NUMBER, a number up to 4294967295",
     },
     Word {
         name: "free",
         verb: Verb::Accounts(AccountVerb::Free),
-        limits: &[ASSET],
         usage: "write free ASSET, an asset up to 255",
     },
     Word {
         name: "accounts",
         verb: Verb::Accounts(AccountVerb::Count),
-        limits: &[],
         usage: "write accounts, alone",
     },
     Word {
         name: "account-room",
         verb: Verb::Accounts(AccountVerb::Capacity),
-        limits: &[],
         usage: "write account-room, alone",
     },
     Word {
         name: "top",
         verb: Verb::Accounts(AccountVerb::Top),
-        limits: &[],
         usage: "write top, alone",
     },
     Word {
         name: "next-account",
         verb: Verb::Accounts(AccountVerb::Next),
-        limits: &[NUMBER],
         usage: "write next-account NUMBER, a number up to 4294967295",
     },
     Word {
         name: "place",
         verb: Verb::Offers(OfferVerb::Place),
-        limits: &[ASSET, ASSET, NUMBER, NUMBER, NUMBER, AMOUNT],
         usage: "write place SOLD BOUGHT LIMIT ACCOUNT SEQUENCE UNITS, assets up to 255, the next three up to 4294967295",
     },
     Word {
         name: "reduce",
         verb: Verb::Offers(OfferVerb::Reduce),
-        limits: &[ASSET, ASSET, NUMBER, NUMBER, NUMBER, AMOUNT],
         usage: "write reduce SOLD BOUGHT LIMIT ACCOUNT SEQUENCE UNITS, assets up to 255, the next three up to 4294967295",
     },
     Word {
         name: "replace",
         verb: Verb::Offers(OfferVerb::Replace),
-        limits: &[
-            ASSET, ASSET, NUMBER, NUMBER, NUMBER, ASSET, ASSET, NUMBER, NUMBER, NUMBER, AMOUNT,
-        ],
         usage: "write replace, the five numbers of the old key, the five of the new one, and UNITS",
     },
     Word {
         name: "amount",
         verb: Verb::Offers(OfferVerb::Amount),
-        limits: &[ASSET, ASSET, NUMBER, NUMBER, NUMBER],
         usage: "write amount SOLD BOUGHT LIMIT ACCOUNT SEQUENCE, assets up to 255, the others up to 4294967295",
     },
     Word {
         name: "offered",
         verb: Verb::Offers(OfferVerb::Offered),
-        limits: &[ASSET],
         usage: "write offered SOLD, an asset up to 255",
     },
     Word {
         name: "up-to",
         verb: Verb::Offers(OfferVerb::UpTo),
-        limits: &[ASSET, ASSET, NUMBER],
         usage: "write up-to SOLD BOUGHT LIMIT, assets up to 255, a limit up to 4294967295",
     },
     Word {
         name: "next-offer",
         verb: Verb::Offers(OfferVerb::Next),
-        limits: &[ASSET, ASSET, NUMBER, NUMBER, NUMBER],
         usage: "write next-offer SOLD BOUGHT LIMIT ACCOUNT SEQUENCE, assets up to 255, the others up to 4294967295",
     },
     Word {
         name: "offers",
         verb: Verb::Offers(OfferVerb::Count),
-        limits: &[],
         usage: "write offers, alone",
     },
     Word {
         name: "offer-room",
         verb: Verb::Offers(OfferVerb::Capacity),
-        limits: &[],
         usage: "write offer-room, alone",
     },
 ];
 
-pub fn find(name: &str) -> Option<Word> {
-    for word in WORDS.iter() {
-        if word.name == name {
-            return Some(*word);
-        }
-    }
-    None
+// The word of this name.
+pub fn find(name: &str) -> Option<&'static Word> {
+    WORDS.iter().find(|word| word.name == name)
 }

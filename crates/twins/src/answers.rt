@@ -4,22 +4,7 @@ use lives::{Answer, Event, Pair, Stop};
 use std::alloc::Global;
 use std::io::{BufWriter, Write};
 use std::{fmt, io};
-use terms::{Fault, Key};
-
-// 32 bytes as 64 lower-case hexadecimal digits.
-#[derive(Clone, Copy)]
-struct Hex([u8; 32]);
-
-impl fmt::Display for Hex {
-    fn fmt<W: fmt::Write>(&self, f: &mut fmt::Formatter<W>) -> fmt::Result {
-        let bytes = self.0;
-        for byte in bytes.iter() {
-            let b = *byte;
-            write!(f, "{b:02x}")?;
-        }
-        Ok(())
-    }
-}
+use terms::Hex;
 
 // A reply as it is printed.
 #[derive(Clone, Copy)]
@@ -29,21 +14,12 @@ impl fmt::Display for Replied {
     fn fmt<W: fmt::Write>(&self, f: &mut fmt::Formatter<W>) -> fmt::Result {
         match self.0 {
             Reply::Number(n) => write!(f, "{n}"),
-            Reply::Digest(bytes) => {
-                let digest = Hex(bytes);
+            Reply::Digest(digest) => {
+                let digest = Hex(digest.as_slice());
                 write!(f, "{digest}")
             }
             Reply::Account(Some(number)) => write!(f, "{number}"),
-            Reply::Offer(Some(key)) => {
-                let Key {
-                    sold,
-                    bought,
-                    limit,
-                    account,
-                    sequence,
-                } = key;
-                write!(f, "{sold} {bought} {limit} {account} {sequence}")
-            }
+            Reply::Offer(Some(key)) => write!(f, "{key}"),
             Reply::Account(None) | Reply::Offer(None) => write!(f, "none"),
         }
     }
@@ -58,50 +34,11 @@ impl fmt::Display for Answered {
         match self.0 {
             None => write!(f, "no answer"),
             Some(Answer::Done) => write!(f, "done"),
-            Some(Answer::Refused(fault)) => {
-                let Fault {
-                    number,
-                    first,
-                    second,
-                } = fault;
-                write!(f, "N {number} {first} {second}")
-            }
+            Some(Answer::Refused(fault)) => write!(f, "N {fault}"),
             Some(Answer::Checked(_)) => write!(f, "passed"),
             Some(Answer::Filled(sold, paid)) => write!(f, "sold {sold}, paid {paid}"),
-            Some(Answer::Told(reply)) => {
-                let replied = Replied(reply);
-                write!(f, "{replied}")
-            }
+            Some(Answer::Told(reply)) => write!(f, "{}", Replied(reply)),
         }
-    }
-}
-
-fn same_reply(first: Reply, second: Reply) -> bool {
-    match (first, second) {
-        (Reply::Number(a), Reply::Number(b)) => a == b,
-        (Reply::Digest(a), Reply::Digest(b)) => a == b,
-        (Reply::Account(a), Reply::Account(b)) => a == b,
-        (Reply::Offer(a), Reply::Offer(b)) => a == b,
-        _ => false,
-    }
-}
-
-fn same_answer(first: Answer, second: Answer) -> bool {
-    match (first, second) {
-        (Answer::Done, Answer::Done) => true,
-        (Answer::Refused(a), Answer::Refused(b)) => a == b,
-        (Answer::Checked(a), Answer::Checked(b)) => a == b,
-        (Answer::Filled(sold, paid), Answer::Filled(s, p)) => sold == s && paid == p,
-        (Answer::Told(a), Answer::Told(b)) => same_reply(a, b),
-        _ => false,
-    }
-}
-
-// Whether both answered an event, and alike.
-fn agree(first: Option<Answer>, second: Option<Answer>) -> bool {
-    match (first, second) {
-        (Some(a), Some(b)) => same_answer(a, b),
-        _ => false,
     }
 }
 
@@ -126,31 +63,64 @@ impl<'a> fmt::Display for Named<'a> {
     }
 }
 
-// A line for each event; the number of the first one whose answers differ, if any.
+// What came of two runs: equal answers to so many events; answers that differ, first at the event of this number; or a
+// run that stopped for want of memory.
+#[derive(Clone, Copy, PartialEq, Eq)]
+pub enum Verdict {
+    Agree(usize),
+    Differ(usize),
+    NoMemory,
+}
+
+impl Verdict {
+    // On runs over so many events. Two that both answered the same events, and alike, agree.
+    fn of(events: usize, pair: &Pair) -> Verdict {
+        let stops = [pair.first.stop, pair.second.stop];
+        if stops.contains(&Err(Stop::NoMemory)) {
+            return Verdict::NoMemory;
+        }
+        let answers = pair.first.answers.iter().zip(pair.second.answers.iter());
+        let equal = answers.take_while(|(one, other)| *one == *other).count();
+        if equal < events {
+            Verdict::Differ(equal.saturating_add(1))
+        } else {
+            Verdict::Agree(events)
+        }
+    }
+}
+
+impl fmt::Display for Verdict {
+    fn fmt<W: fmt::Write>(&self, f: &mut fmt::Formatter<W>) -> fmt::Result {
+        match *self {
+            Verdict::Agree(count) => write!(
+                f,
+                "The two agree: {count} events, equal answers to each."
+            ),
+            Verdict::Differ(n) => write!(f, "The two differ, first at event {n}."),
+            Verdict::NoMemory => write!(f, "The run stopped for want of memory."),
+        }
+    }
+}
+
+// A line for each event.
 fn print_answers<W: Write>(
     output: &mut W,
     events: &[Event<'_>],
     first: &[Answer],
     second: &[Answer],
-) -> io::Result<Option<usize>> {
+) -> io::Result<()> {
     let mut block = 0u64;
-    let mut differs = None;
-    for i in 0..events.len() {
-        let event = events[i];
+    for (i, event) in events.iter().enumerate() {
+        let event = *event;
         if let Event::Check(_) = event {
             block = block.saturating_add(1);
         }
         let name = Named { event, block };
-        let one = first.get(i).copied();
-        let other = second.get(i).copied();
-        if differs.is_none() && !agree(one, other) {
-            differs = Some(i.saturating_add(1));
-        }
-        let one = Answered(one);
-        let other = Answered(other);
+        let one = Answered(first.get(i).copied());
+        let other = Answered(second.get(i).copied());
         writeln!(output, "{name}: {one} | {other}")?;
     }
-    Ok(differs)
+    Ok(())
 }
 
 // Prints the answers of both runs and whether they agree, which it tells too.
@@ -159,32 +129,16 @@ pub fn print_runs<W: Write + Drop>(
     output: W,
     events: &[Event<'_>],
     pair: &Pair,
-) -> io::Result<bool> {
+) -> io::Result<Verdict> {
     let mut buffer = BufWriter::new(alloc, output)?;
-    let differs = print_answers(
+    print_answers(
         &mut buffer,
         events,
         pair.first.answers.as_slice(),
         pair.second.answers.as_slice(),
     )?;
-    let count = events.len();
-    let agreed = match (pair.first.stop, pair.second.stop, differs) {
-        (Err(Stop::NoMemory), _, _) | (_, Err(Stop::NoMemory), _) => {
-            writeln!(buffer, "The run stopped for want of memory.")?;
-            false
-        }
-        (_, _, Some(n)) => {
-            writeln!(buffer, "The two differ, first at event {n}.")?;
-            false
-        }
-        (_, _, None) => {
-            writeln!(
-                buffer,
-                "The two agree: {count} events, equal answers to each."
-            )?;
-            true
-        }
-    };
+    let verdict = Verdict::of(events.len(), pair);
+    writeln!(buffer, "{verdict}")?;
     buffer.flush()?;
-    Ok(agreed)
+    Ok(verdict)
 }

@@ -10,17 +10,17 @@ ghost use Rattle.twins.specs.Paired.{Paired, Agreed};
 mod answers;
 mod streams;
 
-use answers::print_runs;
+use answers::{Verdict, print_runs};
 use hashed_store::{Entry, HashedStore};
 use lives::{Pair, live_twice};
 use ordered_book::OrderedBook;
+use programs::{Failure, end, read_file, words};
 use sorted_store::SortedStore;
 use std::alloc::{AllocError, Global};
-use std::fmt::Display;
 use std::process::ExitCode;
-use std::{env, fs};
+use std::{fmt, io};
 use streams::{Refusal, Twins, pair_events};
-use terms::{Account, Key, Offer};
+use terms::{Account, Offer};
 use trie_book::TrieBook;
 
 const USAGE: &str = "usage: twins FIRST SECOND";
@@ -28,6 +28,9 @@ const USAGE: &str = "usage: twins FIRST SECOND";
 const HELP: &str =
     "runs two files, each with a founding and blocks, side by side, and prints what two replicas of different make
 answer; the files may differ in the order of grants and of transactions within a block, and in memos";
+
+// What to name in place of a file that cannot be read.
+const WANTED: &str = "two files that you may read, each with a founding and blocks";
 
 const SLOTS: usize = 256;
 
@@ -39,28 +42,11 @@ const NODES: usize = 2_047;
 
 const OFFERS: usize = 1_024;
 
-const BLANK: Account = Account {
-    number: 0,
-    floor: 0,
-    balances: [0; 8],
-};
-
-const NO_OFFER: Offer = Offer {
-    key: Key {
-        sold: 0,
-        bought: 0,
-        limit: 0,
-        account: 0,
-        sequence: 0,
-    },
-    amount: 0,
-};
-
 // The events of the two streams, which a first run of the first stream gives.
 fn events<'a>(heap: Global, first: &'a [u8], second: &'a [u8]) -> Result<Twins<'a>, Refusal>
     ensures { IfOk result (λ t. Paired t.first.items t.second.items) }
 {
-    let mut slots = vec![in heap; BLANK; SLOTS]?;
+    let mut slots = vec![in heap; Account::default(); SLOTS]?;
     let store = SortedStore::new(slots.as_mut_slice(), TOP);
     let book = TrieBook::new(heap, NODES)?;
     pair_events(heap, store, book, first, second)
@@ -70,10 +56,10 @@ fn events<'a>(heap: Global, first: &'a [u8], second: &'a [u8]) -> Result<Twins<'
 fn run_twins(heap: Global, twins: &Twins<'_>) -> Result<Pair, AllocError>
     ensures { IfOk result (λ p. Paired twins.now.first.items twins.now.second.items → Agreed (map answer_of p.first.answers.items) (map answer_of p.second.answers.items) p.first.stop p.second.stop) }
 {
-    let mut slots = vec![in heap; BLANK; SLOTS]?;
-    let mut other_slots = vec![in heap; BLANK; SLOTS]?;
-    let mut index = vec![in heap; Entry { number: 0, slot: 0 }; INDEX]?;
-    let mut offers = vec![in heap; NO_OFFER; OFFERS]?;
+    let mut slots = vec![in heap; Account::default(); SLOTS]?;
+    let mut other_slots = vec![in heap; Account::default(); SLOTS]?;
+    let mut index = vec![in heap; Entry::default(); INDEX]?;
+    let mut offers = vec![in heap; Offer::default(); OFFERS]?;
     let trie = TrieBook::new(heap, NODES)?;
     Ok(live_twice(
         heap,
@@ -102,78 +88,72 @@ fn run_streams<'a>(heap: Global, first: &'a [u8], second: &'a [u8]) -> Result<Ru
     Ok(Runs { twins, pair })
 }
 
-// The program has failed, and has said why.
-#[derive(Clone, Copy)]
-struct Failed;
-
-// Says on standard error what went wrong.
-fn fail(rt: &HostRuntime, text: impl Display + Drop) -> Failed {
-    let _ = rt.eprintln(text);
-    Failed
+// Why the two files are not run, or their answers not shown.
+#[derive(Drop)]
+enum NotRun<'a> {
+    Failed(Failure<'a>),
+    Refused(Refusal),
+    // the words name no two files
+    Usage,
+    // the answers cannot be written
+    Unwritten,
 }
 
-// The words after the program's name.
-fn words(rt: &HostRuntime) -> Result<Vec<String>, Failed> {
-    match env::args(rt) {
-        Ok(words) => match words.skip(1).collect(rt.alloc()) {
-            Ok(words) => Ok(words),
-            Err(_) => Err(fail(rt, "twins: there is not enough memory")),
-        },
-        Err(error) => Err(fail(
-            rt,
-            format_args!("twins: the arguments cannot be read: {error}"),
-        )),
+impl<'a> From<Failure<'a>> for NotRun<'a> {
+    fn from(failure: Failure<'a>) -> Self {
+        NotRun::Failed(failure)
     }
 }
 
-fn read_file(rt: &HostRuntime, path: &str) -> Result<Vec<u8>, Failed> {
-    match fs::read(rt, path) {
-        Ok(bytes) => Ok(bytes),
-        Err(error) => Err(fail(
-            rt,
-            format_args!(
-                "twins: {path} cannot be read ({error}): name two files that you may read, each with a founding and blocks"
-            ),
-        )),
+impl<'a> From<Refusal> for NotRun<'a> {
+    fn from(refusal: Refusal) -> Self {
+        NotRun::Refused(refusal)
     }
 }
 
-// Runs the two files side by side, and prints the answers and whether they agree.
-fn run_files(rt: &HostRuntime, first: &str, second: &str) -> Result<(), Failed> {
-    let one = read_file(rt, first)?;
-    let other = read_file(rt, second)?;
-    let runs = match run_streams(rt.alloc(), one.as_slice(), other.as_slice()) {
-        Ok(runs) => runs,
-        Err(refusal) => return Err(fail(rt, format_args!("twins: {refusal}"))),
-    };
-    match print_runs(
-        rt.alloc(),
-        rt.stdout(),
-        runs.twins.first.as_slice(),
-        &runs.pair,
-    ) {
-        Ok(true) => Ok(()),
-        Ok(false) => Err(Failed),
-        Err(_) => Err(fail(rt, "twins: the answers cannot be written")),
+impl<'a> From<io::Error> for NotRun<'a> {
+    fn from(_: io::Error) -> Self {
+        NotRun::Unwritten
     }
 }
 
-fn run(rt: &HostRuntime) -> Result<(), Failed> {
-    let words = words(rt)?;
-    match words.as_slice() {
+impl<'a> fmt::Display for NotRun<'a> {
+    fn fmt<W: fmt::Write>(&self, f: &mut fmt::Formatter<W>) -> fmt::Result {
+        match self {
+            NotRun::Failed(failure) => write!(f, "twins: {failure}"),
+            NotRun::Refused(refusal) => write!(f, "twins: {refusal}"),
+            NotRun::Usage => write!(f, "{USAGE}"),
+            NotRun::Unwritten => write!(f, "twins: the answers cannot be written"),
+        }
+    }
+}
+
+// Runs the two files side by side, prints the answers, and tells whether they agree.
+fn run_files<'a>(rt: &HostRuntime, first: &'a str, second: &'a str) -> Result<Verdict, NotRun<'a>> {
+    let one = read_file(rt, first, WANTED)?;
+    let other = read_file(rt, second, WANTED)?;
+    let Runs { twins, pair } = run_streams(rt.alloc(), one.as_slice(), other.as_slice())?;
+    Ok(print_runs(rt.alloc(), rt.stdout(), twins.first.as_slice(), &pair)?)
+}
+
+// Gives status 0 where the streams agree, and 1 otherwise.
+fn run<'a>(rt: &HostRuntime, words: &'a [String]) -> Result<ExitCode, NotRun<'a>> {
+    match words {
         [word] if word.as_str() == "--help" => {
             let _ = println!(rt; "{USAGE}\n{HELP}");
-            Ok(())
+            Ok(ExitCode::SUCCESS)
         }
-        [first, second] => run_files(rt, first.as_str(), second.as_str()),
-        _ => Err(fail(rt, USAGE)),
+        [first, second] => match run_files(rt, first.as_str(), second.as_str())? {
+            Verdict::Agree(_) => Ok(ExitCode::SUCCESS),
+            Verdict::Differ(_) | Verdict::NoMemory => Ok(ExitCode::FAILURE),
+        },
+        _ => Err(NotRun::Usage),
     }
 }
 
-// Ends with status 0 where the streams agree, and 1 otherwise.
 fn main(rt: HostRuntime) -> ExitCode {
-    match run(&rt) {
-        Ok(()) => ExitCode::SUCCESS,
-        Err(Failed) => ExitCode::FAILURE,
+    match words(&rt) {
+        Ok(words) => end(&rt, run(&rt, words.as_slice())),
+        Err(failure) => end(&rt, Err(NotRun::from(failure))),
     }
 }

@@ -22,15 +22,48 @@ pub struct Twins<'a> {
     pub second: Vec<Event<'a>>,
 }
 
-// Why two streams are not run. A piece goes by its number, 0 for the founding, and by the byte at which it begins.
+// A piece of a stream by its number, 0 for the founding, and by the byte of the first stream at which it begins.
+#[derive(Clone, Copy)]
+pub struct Place {
+    piece: u64,
+    at: usize,
+}
+
+impl Place {
+    // Whether the founding lies there.
+    fn is_founding(&self) -> bool {
+        self.piece == 0
+    }
+
+    // Where the next piece begins.
+    fn after(self, piece: &[u8]) -> Place {
+        Place {
+            piece: self.piece.saturating_add(1),
+            at: self.at.saturating_add(piece.len()),
+        }
+    }
+}
+
+impl fmt::Display for Place {
+    fn fmt<W: fmt::Write>(&self, f: &mut fmt::Formatter<W>) -> fmt::Result {
+        let Place { piece, at } = *self;
+        if self.is_founding() {
+            write!(f, "the founding, at byte {at}")
+        } else {
+            write!(f, "block {piece}, at byte {at}")
+        }
+    }
+}
+
+// Why two streams are not run.
 #[derive(Clone, Copy)]
 pub enum Refusal {
     // the piece is not the other's but for the order
-    Differs { piece: u64, at: usize },
+    Differs(Place),
     // the first stream has a piece more
-    FirstGoesOn { piece: u64, at: usize },
+    FirstGoesOn(Place),
     // the second stream has a piece more
-    SecondGoesOn { piece: u64, at: usize },
+    SecondGoesOn(Place),
     NoMemory,
 }
 
@@ -40,43 +73,22 @@ impl From<AllocError> for Refusal {
     }
 }
 
-// A piece by its name and its place.
-#[derive(Clone, Copy)]
-struct Place {
-    piece: u64,
-    at: usize,
-}
-
-impl fmt::Display for Place {
-    fn fmt<W: fmt::Write>(&self, f: &mut fmt::Formatter<W>) -> fmt::Result {
-        let Place { piece, at } = *self;
-        if piece == 0 {
-            write!(f, "the founding, at byte {at}")
-        } else {
-            write!(f, "block {piece}, at byte {at}")
-        }
-    }
-}
-
 impl fmt::Display for Refusal {
     fn fmt<W: fmt::Write>(&self, f: &mut fmt::Formatter<W>) -> fmt::Result {
         match *self {
-            Refusal::Differs { piece, at } => {
-                let place = Place { piece, at };
-                let what = if piece == 0 { "grants" } else { "transactions" };
+            Refusal::Differs(place) => {
+                let what = if place.is_founding() {
+                    "grants"
+                } else {
+                    "transactions"
+                };
                 write!(
                     f,
                     "{place}: the two differ in more than the order of {what}"
                 )
             }
-            Refusal::FirstGoesOn { piece, at } => {
-                let place = Place { piece, at };
-                write!(f, "{place}: only the first file has it")
-            }
-            Refusal::SecondGoesOn { piece, at } => {
-                let place = Place { piece, at };
-                write!(f, "{place}: only the second file has it")
-            }
+            Refusal::FirstGoesOn(place) => write!(f, "{place}: only the first file has it"),
+            Refusal::SecondGoesOn(place) => write!(f, "{place}: only the second file has it"),
             Refusal::NoMemory => write!(f, "no memory to run them"),
         }
     }
@@ -95,6 +107,7 @@ fn cut<'a>(bytes: &'a [u8]) -> (&'a [u8], &'a [u8])
 
 impl<'a> Twins<'a> {
     // One event more on each side.
+    #[tactic(auto, using(crate::proofs::Fair::paired_push))]
     fn push(&mut self, event: Event<'a>, other: Event<'a>) -> Result<(), AllocError>
         ensures { OnOk result (Paired self.old.first.items self.old.second.items → Fair (event_of event.entry) (event_of other.entry) → Paired self.new.first.items self.new.second.items) }
     {
@@ -111,22 +124,23 @@ impl<'a> Twins<'a> {
     }
 }
 
-// A founding of each stream. False where the two are not the same but for the order of grants.
+// A founding of each stream, which are the same but for the order of grants.
 fn add_founding<'a, S: AccountStore, B: OfferBook>(
     replica: &mut Replica<S, B>,
     twins: &mut Twins<'a>,
+    place: Place,
     founding: &'a [u8],
     other: &'a [u8],
-) -> Result<bool, AllocError>
+) -> Result<(), Refusal>
     ensures { OnOk result (Paired twins.old.first.items twins.old.second.items → Paired twins.new.first.items twins.new.second.items) }
 {
     if !same_founding(founding, other) {
-        return Ok(false);
+        return Err(Refusal::Differs(place));
     }
     let _ = replica.found(founding);
     twins.push(Event::Found(founding), Event::Found(other))?;
     twins.push_digest()?;
-    Ok(true)
+    Ok(())
 }
 
 // A commit on each side of the block that was checked last.
@@ -137,18 +151,19 @@ fn add_commit<'a>(twins: &mut Twins<'a>, number: usize) -> Result<(), AllocError
     twins.push_digest()
 }
 
-// A check of a block of each stream and, where it passes on the replica, its commit. False where the two are not the
-// same but for the order of transactions.
+// A check of a block of each stream, which are the same but for the order of transactions, and, where it passes on the
+// replica, its commit.
 fn add_block<'a, S: AccountStore, B: OfferBook>(
     replica: &mut Replica<S, B>,
     twins: &mut Twins<'a>,
+    place: Place,
     block: &'a [u8],
     other: &'a [u8],
-) -> Result<bool, AllocError>
+) -> Result<(), Refusal>
     ensures { OnOk result (Paired twins.old.first.items twins.old.second.items → Paired twins.new.first.items twins.new.second.items) }
 {
     if !same_block(block, other) {
-        return Ok(false);
+        return Err(Refusal::Differs(place));
     }
     twins.push(Event::Check(block), Event::Check(other))?;
     let number = replica.passed() as usize;
@@ -156,24 +171,7 @@ fn add_block<'a, S: AccountStore, B: OfferBook>(
         let _ = checked.commit(replica);
         add_commit(twins, number)?;
     }
-    Ok(true)
-}
-
-// A piece of each stream: the founding, or a block.
-fn add_piece<'a, S: AccountStore, B: OfferBook>(
-    replica: &mut Replica<S, B>,
-    twins: &mut Twins<'a>,
-    number: u64,
-    piece: &'a [u8],
-    other: &'a [u8],
-) -> Result<bool, AllocError>
-    ensures { OnOk result (Paired twins.old.first.items twins.old.second.items → Paired twins.new.first.items twins.new.second.items) }
-{
-    if number == 0 {
-        add_founding(replica, twins, piece, other)
-    } else {
-        add_block(replica, twins, piece, other)
-    }
+    Ok(())
 }
 
 // One piece of each stream after the other, until both are used up.
@@ -187,26 +185,24 @@ fn add_pieces<'a, S: AccountStore, B: OfferBook>(
 {
     let mut one = first;
     let mut other = second;
-    let mut piece = 0;
+    let mut place = Place { piece: 0, at: 0 };
     while one.len() > 0 && other.len() > 0 {
-        let at = first.len().saturating_sub(one.len());
         let (head, rest) = cut(one);
         let (other_head, other_rest) = cut(other);
-        if !add_piece(replica, twins, piece, head, other_head)? {
-            return Err(Refusal::Differs { piece, at });
+        if place.is_founding() {
+            add_founding(replica, twins, place, head, other_head)?;
+        } else {
+            add_block(replica, twins, place, head, other_head)?;
         }
         one = rest;
         other = other_rest;
-        piece = piece.saturating_add(1);
+        place = place.after(head);
     }
-    let at = first.len().saturating_sub(one.len());
-    if one.len() > 0 {
-        return Err(Refusal::FirstGoesOn { piece, at });
+    match (one, other) {
+        ([], []) => Ok(()),
+        ([], _) => Err(Refusal::SecondGoesOn(place)),
+        (_, _) => Err(Refusal::FirstGoesOn(place)),
     }
-    if other.len() > 0 {
-        return Err(Refusal::SecondGoesOn { piece, at });
-    }
-    Ok(())
 }
 
 // The events of two streams, of which a replica over this store and this book tells what passes in the first.

@@ -1,20 +1,7 @@
 // One command in one line: its byte place, its letter, and its operands by name. What is sold and what is bought is said in full.
 use commands::{Command, eight_balances};
 use std::fmt;
-
-// Bytes as hexadecimal digits.
-#[derive(Clone, Copy)]
-struct Hex<'a>(&'a [u8]);
-
-impl<'a> fmt::Display for Hex<'a> {
-    fn fmt<W: fmt::Write>(&self, f: &mut fmt::Formatter<W>) -> fmt::Result {
-        for byte in self.0 {
-            let b = *byte;
-            write!(f, "{b:02x}")?;
-        }
-        Ok(())
-    }
-}
+use terms::Hex;
 
 // The balances of a grant that are not 0.
 #[derive(Clone, Copy)]
@@ -22,17 +9,44 @@ struct Balances([u64; 8]);
 
 impl fmt::Display for Balances {
     fn fmt<W: fmt::Write>(&self, f: &mut fmt::Formatter<W>) -> fmt::Result {
-        let mut first = true;
         let balances = self.0;
-        for (asset, balance) in balances.iter().enumerate() {
-            let amount = *balance;
-            if amount > 0 {
-                let comma = if first { "" } else { "," };
-                write!(f, "{comma} {amount} of asset {asset}")?;
-                first = false;
-            }
+        if balances.iter().all(|balance| *balance == 0) {
+            return write!(f, " nothing");
         }
-        if first { write!(f, " nothing") } else { Ok(()) }
+        let given = balances.iter().enumerate().filter(|(_, b)| **b > 0);
+        for (i, (asset, balance)) in given.enumerate() {
+            let comma = if i == 0 { "" } else { "," };
+            write!(f, "{comma} {balance} of asset {asset}")?;
+        }
+        Ok(())
+    }
+}
+
+// The account that a transaction comes from, and its sequence number.
+#[derive(Clone, Copy)]
+struct Source(u32, u32);
+
+impl fmt::Display for Source {
+    fn fmt<W: fmt::Write>(&self, f: &mut fmt::Formatter<W>) -> fmt::Result {
+        let Source(account, sequence) = *self;
+        write!(f, "account {account}, sequence {sequence}")
+    }
+}
+
+// What an offer is made for: the asset that it buys, and how much of it at least for each unit.
+#[derive(Clone, Copy)]
+struct Limit {
+    limit: u32,
+    bought: u8,
+}
+
+impl fmt::Display for Limit {
+    fn fmt<W: fmt::Write>(&self, f: &mut fmt::Formatter<W>) -> fmt::Result {
+        let Limit { limit, bought } = *self;
+        write!(
+            f,
+            "for asset {bought}, at least {limit}/65536 of asset {bought} for each unit"
+        )
     }
 }
 
@@ -48,13 +62,11 @@ impl<'a> fmt::Display for Line<'a> {
         let place = self.place;
         write!(f, "{place:>6} ")?;
         match self.command {
-            Command::Begin { height, parent } => {
-                let parent = Hex(parent);
-                write!(
-                    f,
-                    "B begins the block of height {height}, on the state with digest {parent}"
-                )
-            }
+            Command::Begin { height, parent } => write!(
+                f,
+                "B begins the block of height {height}, on the state with digest {}",
+                Hex(parent)
+            ),
             Command::Price { asset, price } => write!(f, "P asset {asset} has price {price}"),
             Command::Volume {
                 sold,
@@ -68,12 +80,7 @@ impl<'a> fmt::Display for Line<'a> {
                 source,
                 sequence,
                 account,
-            } => {
-                write!(
-                    f,
-                    "A account {source}, sequence {sequence}: opens account {account}"
-                )
-            }
+            } => write!(f, "A {}: opens account {account}", Source(source, sequence)),
             Command::Pay {
                 source,
                 sequence,
@@ -81,13 +88,12 @@ impl<'a> fmt::Display for Line<'a> {
                 asset,
                 amount,
                 memo,
-            } => {
-                let memo = Hex(memo);
-                write!(
-                    f,
-                    "T account {source}, sequence {sequence}: pays {amount} of asset {asset} to account {receiver}, memo {memo}"
-                )
-            }
+            } => write!(
+                f,
+                "T {}: pays {amount} of asset {asset} to account {receiver}, memo {}",
+                Source(source, sequence),
+                Hex(memo)
+            ),
             Command::Place {
                 source,
                 sequence,
@@ -95,13 +101,12 @@ impl<'a> fmt::Display for Line<'a> {
                 bought,
                 limit,
                 amount,
-            } => {
-                write!(
-                    f,
-                    "O account {source}, sequence {sequence}: sells {amount} of asset {sold} for asset {bought}, "
-                )?;
-                write!(f, "at least {limit}/65536 of asset {bought} for each unit")
-            }
+            } => write!(
+                f,
+                "O {}: sells {amount} of asset {sold} {}",
+                Source(source, sequence),
+                Limit { limit, bought }
+            ),
             Command::Cancel {
                 source,
                 sequence,
@@ -109,20 +114,17 @@ impl<'a> fmt::Display for Line<'a> {
                 bought,
                 limit,
                 offer,
-            } => {
-                write!(
-                    f,
-                    "C account {source}, sequence {sequence}: cancels its offer of sequence {offer}, "
-                )?;
-                write!(
-                    f,
-                    "which sells asset {sold} for asset {bought}, at least {limit}/65536 of asset {bought} for each unit"
-                )
-            }
-            Command::Found { account, balances } => {
-                let balances = Balances(eight_balances(balances));
-                write!(f, "G account {account} gets{balances}")
-            }
+            } => write!(
+                f,
+                "C {}: cancels its offer of sequence {offer}, which sells asset {sold} {}",
+                Source(source, sequence),
+                Limit { limit, bought }
+            ),
+            Command::Found { account, balances } => write!(
+                f,
+                "G account {account} gets{}",
+                Balances(eight_balances(balances))
+            ),
             Command::End => write!(f, "E ends"),
         }
     }

@@ -1,5 +1,4 @@
 use Rattle.std.proofs.Common.{◌≡◌, ℕ, ◌≤◌, min, false, ltb, List, [], ◌∷◌, length, MatchBool, sym, ◌∙◌, subst, subst₂, arith}
-use Rattle.std.proofs.lemmas.Result.{err_from_is_err_and}
 use Rattle.std.proofs.lemmas.Bool.{le-ltb}
 use Rattle.terms.specs.Holdings.{Store, Book}
 use Rattle.exchange.specs.Faults.{fault}
@@ -17,12 +16,6 @@ shown bs ls counts st bk m short s e b o =
     let same : st ≡ accounts = s ∙ (λ i. record { capacity = min (e i) 65536; top = 4294967295; accounts = [] }) in
     let fits : ltb 65536 (length bs) ≡ false = le-ltb 65536 (length bs) short in
     subst (λ x. MatchBool x (ls ≡ Refused (fault 1 0 0) ∷ []) ((c : Line) × Outcome accounts offers bs ls c)) (sym fits) (counts, subst₂ (λ y z. Outcome y z bs ls counts) same b o)
-
-pub returns-in_err-book : goal.returns-in_err-book
-returns-in_err-book c = let p = err_from_is_err_and c.from_residual-in_err-book.result c.from_residual-in_err-book.ensures.1 in rw p.1 tt
-
-pub returns-in_err-listing : goal.returns-in_err-listing
-returns-in_err-listing c = let p = err_from_is_err_and c.from_residual-in_err-listing.result c.from_residual-in_err-listing.ensures.1 in rw p.1 tt
 
 pub returns : goal.returns
 returns c =

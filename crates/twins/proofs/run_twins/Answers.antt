@@ -1,20 +1,7 @@
 use Rattle.std.proofs.Common.{◌≡◌, ◌/◌, min, length, vec_items, sym, ◌∙◌, subst}
-use Rattle.std.proofs.lemmas.Result.{IfOk-from_err}
 use Rattle.twins.specs.Paired.{Paired}
 use Rattle.twins.proofs.Begin.{begin_alike}
 use Rattle.twins.proofs.run_twins.Goals as goal
-
-pub returns-in_err-other_slots : goal.returns-in_err-other_slots
-returns-in_err-other_slots c = IfOk-from_err c.from_residual-in_err-other_slots.result _ c.from_residual-in_err-other_slots.ensures.0
-
-pub returns-in_err-index : goal.returns-in_err-index
-returns-in_err-index c = IfOk-from_err c.from_residual-in_err-index.result _ c.from_residual-in_err-index.ensures.0
-
-pub returns-in_err-offers : goal.returns-in_err-offers
-returns-in_err-offers c = IfOk-from_err c.from_residual-in_err-offers.result _ c.from_residual-in_err-offers.ensures.0
-
-pub returns-in_err-trie : goal.returns-in_err-trie
-returns-in_err-trie c = IfOk-from_err c.from_residual-in_err-trie.result _ c.from_residual-in_err-trie.ensures.0
 
 pub returns : goal.returns
 returns c = λ p.
