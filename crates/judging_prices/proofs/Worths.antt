@@ -1,7 +1,6 @@
 -- What is sold and bought of an asset, by its worth. Assumes nothing.
-use Rattle.std.proofs.Common.{◌≡◌, ℕ, zero, suc, ◌+◌, ◌*◌, ◌^◌, ◌<◌, ◌≤◌, min, Bool, true, cond, eqb, List, [], ◌∷◌, length, get_or, take, sum_by, Result, sym, refl, ap, ◌∙◌, subst, inl, inr, mul_comm, mul-le-mul, arith, lit<}
+use Rattle.std.proofs.Common.{◌≡◌, ℕ, zero, suc, ◌*◌, ◌^◌, ◌<◌, ◌≤◌, Bool, true, cond, eqb, List, [], ◌∷◌, get_or, sum_by, Result, sym, refl, ap, ◌∙◌, subst, inl, inr, mul_comm, mul-le-mul, arith, lit<}
 use Rattle.std.proofs.lemmas.Bool.{cases_Bool, eqb-true}
-use Rattle.std.proofs.lemmas.List.Sums.{sum_by_more}
 use Rattle.std.proofs.ByRecursion.{has_get_or, all-has}
 use Rattle.std.specs.List.{ContainsAt as Has}
 use Rattle.terms.specs.declared.Volume.{Volume}

@@ -69,8 +69,7 @@ impl<'a> Rule<u8> for Clearing<'a> {
     ghost broken = { λ r x. nat_lt (volume_of (deal r.prices.now r.volumes.now []) x * price_in (deal r.prices.now r.volumes.now []) x) (worth_for (deal r.prices.now r.volumes.now []) x) };
 
     fn breaks(&self, x: u8) -> bool {
-        worth_sold(self.prices, self.volumes, x)
-            < worth_bought(self.prices, self.volumes, x)
+        worth_sold(self.prices, self.volumes, x) < worth_bought(self.prices, self.volumes, x)
     }
 }
 
@@ -82,5 +81,9 @@ pub fn prices_clear<'a>(prices: &'a [u32; 8], volumes: &'a [Volume]) -> Result<(
     if volumes.len() > MAX_VOLUMES {
         return Err(Cause::OutOfTurn.into());
     }
-    report(&Clearing { prices, volumes }, Cause::Uncleared as u8, &ASSETS)
+    report(
+        &Clearing { prices, volumes },
+        Cause::Uncleared as u8,
+        &ASSETS,
+    )
 }

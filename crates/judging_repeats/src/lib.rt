@@ -90,7 +90,11 @@ pub fn openings_good<S: AccountStore>(store: &S, transactions: &[Transaction]) -
 {
     let mut ledger = Ledger::new();
     let nets = ledger.sums(&Openings, transactions)?;
-    report(&Fresh { store, nets }, Cause::BadAccount as u8, transactions)
+    report(
+        &Fresh { store, nets },
+        Cause::BadAccount as u8,
+        transactions,
+    )
 }
 
 #[derive(Drop)]

@@ -18,7 +18,10 @@ use terms::{Cause, Fault, Transaction};
 fn openings(transactions: &[Transaction]) -> usize
     ensures { result ≡ length (flat_map created transactions.now) }
 {
-    transactions.iter().filter(|t| t.created().is_some()).count()
+    transactions
+        .iter()
+        .filter(|t| t.created().is_some())
+        .count()
 }
 
 // How many offers they place.
@@ -32,7 +35,10 @@ fn placements(transactions: &[Transaction]) -> usize
 fn cancellations(transactions: &[Transaction]) -> usize
     ensures { result ≡ length (flat_map cancelled transactions.now) }
 {
-    transactions.iter().filter(|t| t.cancelled().is_some()).count()
+    transactions
+        .iter()
+        .filter(|t| t.cancelled().is_some())
+        .count()
 }
 
 // The accounts that stand and the new ones do not exceed the store's capacity.

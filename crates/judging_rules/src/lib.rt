@@ -95,8 +95,7 @@ impl<'a, B: OfferBook> Rule<Transaction> for Standing<'a, B> {
     ghost broken = { λ r t. any (λ k. nat_eq (amount_at (B.book r.book.now).offers k) 0) (cancelled t) };
 
     fn breaks(&self, t: Transaction) -> bool {
-        t.cancelled()
-            .is_some_and(|key| self.book.amount(key) == 0)
+        t.cancelled().is_some_and(|key| self.book.amount(key) == 0)
     }
 }
 

@@ -15,8 +15,8 @@ returns-clause-row g c =
     let bk = (g.B.OfferBook.book c.args.book.now) in
     let t = c.in_ok-entries.ensures.1 in
     λ _.
-          told_by _ _ 18 c.report.result
-          (λ i j e. let p = comes_in st bk ts i j in let m = goes_out st bk ts i j in grind (arith, nat_tests))
-          (λ i j e. let p = comes_in st bk ts i j in let m = goes_out st bk ts i j in grind (arith, nat_tests))
-          (told_nets slot_words (λ k. k.account) (λ k. k.asset) (λ _. refl) (λ i j p m. ltb j 8 && ltb (balance_at st i j + p) m) (λ i j. grind (arith, nat_tests))
-          (flat_map (moves (amount_at bk.offers)) ts) _ t 18 c.report.result (c.report.ensures tt))
+    told_by _ _ 18 c.report.result
+    (λ i j e. let p = comes_in st bk ts i j in let m = goes_out st bk ts i j in grind (arith, nat_tests))
+    (λ i j e. let p = comes_in st bk ts i j in let m = goes_out st bk ts i j in grind (arith, nat_tests))
+    (told_nets slot_words (λ k. k.account) (λ k. k.asset) (λ _. refl) (λ i j p m. ltb j 8 && ltb (balance_at st i j + p) m) (λ i j. grind (arith, nat_tests))
+    (flat_map (moves (amount_at bk.offers)) ts) _ t 18 c.report.result (c.report.ensures tt))

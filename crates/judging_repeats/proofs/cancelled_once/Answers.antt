@@ -11,7 +11,7 @@ returns-clause-row c =
     let ts = c.args.transactions.now in
     let t = c.in_ok-nets.ensures.1 in
     λ _.
-          told_any _ _ _ ts 17 c.report.result
-          (λ k e. let o = t.plus (words k) ∙ times words cancelled ts (words k) in grind (arith, nat_tests))
-          (λ k e. let o = t.plus (words k) ∙ times words cancelled ts (words k) in grind (arith, nat_tests))
-          (c.report.ensures t.rising)
+    told_any _ _ _ ts 17 c.report.result
+    (λ k e. let o = t.plus (words k) ∙ times words cancelled ts (words k) in grind (arith, nat_tests))
+    (λ k e. let o = t.plus (words k) ∙ times words cancelled ts (words k) in grind (arith, nat_tests))
+    (c.report.ensures t.rising)

@@ -11,7 +11,7 @@ returns-clause-row g c =
     let ts = c.args.transactions.now in
     let t = c.in_ok-nets.ensures.1 in
     λ _.
-          told_any _ _ _ ts 15 c.report.result
-          (λ k e. let o = t.plus (k ∷ []) ∙ times (λ m. m ∷ []) created ts (k ∷ []) ∙ times_created (bundle ts) k in grind (arith, nat_tests))
-          (λ k e. let o = t.plus (k ∷ []) ∙ times (λ m. m ∷ []) created ts (k ∷ []) ∙ times_created (bundle ts) k in grind (arith, nat_tests))
-          (c.report.ensures t.rising)
+    told_any _ _ _ ts 15 c.report.result
+    (λ k e. let o = t.plus (k ∷ []) ∙ times (λ m. m ∷ []) created ts (k ∷ []) ∙ times_created (bundle ts) k in grind (arith, nat_tests))
+    (λ k e. let o = t.plus (k ∷ []) ∙ times (λ m. m ∷ []) created ts (k ∷ []) ∙ times_created (bundle ts) k in grind (arith, nat_tests))
+    (c.report.ensures t.rising)

@@ -13,7 +13,7 @@ returns-clause-row c =
     let ts = c.args.transactions.now in
     let t = c.in_ok-nets.ensures.1 in
     λ _.
-          told_by _ _ 13 c.report.result
-          (λ i j e. let o = times spot tagged ts (i ∷ j ∷ []) ∙ times_tagged ts (i ∷ j ∷ []) in grind (arith, nat_tests))
-          (λ i j h. let o = times spot tagged ts (i ∷ j ∷ []) ∙ times_tagged ts (i ∷ j ∷ []) in grind (arith, nat_tests))
-          (told_nets spot (λ p. p.first) (λ p. p.second) (λ _. refl) (λ _ _ p _. ltb 1 p) (λ _ _. refl) (flat_map (λ t. ones (tagged t)) ts) _ t 13 c.report.result (c.report.ensures tt))
+    told_by _ _ 13 c.report.result
+    (λ i j e. let o = times spot tagged ts (i ∷ j ∷ []) ∙ times_tagged ts (i ∷ j ∷ []) in grind (arith, nat_tests))
+    (λ i j h. let o = times spot tagged ts (i ∷ j ∷ []) ∙ times_tagged ts (i ∷ j ∷ []) in grind (arith, nat_tests))
+    (told_nets spot (λ p. p.first) (λ p. p.second) (λ _. refl) (λ _ _ p _. ltb 1 p) (λ _ _. refl) (flat_map (λ t. ones (tagged t)) ts) _ t 13 c.report.result (c.report.ensures tt))
