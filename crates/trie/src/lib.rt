@@ -18,9 +18,9 @@ const MOST: usize = 131_071;
 // The bits of a key, and the first number that has more.
 const BITS: u32 = 102;
 
-const KEYS: u128 = 5_070_602_400_912_917_605_986_812_821_504;
-// The largest amount, 2^36 - 1.
-const MAX_AMOUNT: u64 = 68_719_476_735;
+const KEYS: u128 = 1 << BITS;
+// The largest amount.
+const MAX_AMOUNT: u64 = (1 << 36) - 1;
 
 #[derive(Drop)]
 pub struct Trie {
@@ -142,7 +142,7 @@ impl Trie {
         ensures holds { (x : ℕ) → held self.new.root x ≡ (if nat_eq x key then units else held self.old.root x) }
     {
         if self.count == 0 {
-            self.root = Node::Offer(key, units);
+            self.root = Node::Offer { key, amount: units };
             self.count = 1;
             return;
         }

@@ -10,11 +10,21 @@ use std::mem;
 pub enum Node {
     // no offer: an empty trie, or a node that is not in use
     Idle,
-    // a key and its amount
-    Offer(u128, u64),
-    // the bit at which the keys below part, the lowest number that has this bit set and is like them above it, the
-    // sum of the amounts below, the side whose keys lie below that number, the side whose keys do not
-    Branch(u32, u128, u64, Box<Node>, Box<Node>),
+    Offer {
+        key: u128,
+        amount: u64,
+    },
+    Branch {
+        // the bit at which the keys below part
+        bit: u32,
+        // the lowest number that has this bit set and is like them above it
+        split: u128,
+        // the sum of the amounts below
+        sum: u64,
+        // the side whose keys lie below that number, and the side whose keys do not
+        left: Box<Node>,
+        right: Box<Node>,
+    },
 }
 
 // The amount at a key, 0 where it does not stand.
@@ -24,8 +34,14 @@ pub(crate) fn amount(node: &Node, bits: u32, key: u128) -> u64
 {
     match node {
         Node::Idle => 0,
-        Node::Offer(k, a) => { if *k == key { *a } else { 0 } }
-        Node::Branch(bit, split, _, left, right) => {
+        Node::Offer { key: k, amount: a } => { if *k == key { *a } else { 0 } }
+        Node::Branch {
+            bit,
+            split,
+            left,
+            right,
+            ..
+        } => {
             if key < *split {
                 amount(left, *bit, key)
             } else {
@@ -42,8 +58,8 @@ fn all(node: &Node, bits: u32) -> u64
 {
     match node {
         Node::Idle => 0,
-        Node::Offer(_, a) => *a,
-        Node::Branch(_, _, sum, _, _) => *sum,
+        Node::Offer { amount: a, .. } => *a,
+        Node::Branch { sum, .. } => *sum,
     }
 }
 
@@ -56,8 +72,14 @@ pub(crate) fn sum_under(node: &Node, bits: u32, key: u128) -> u64
 {
     match node {
         Node::Idle => 0,
-        Node::Offer(k, a) => { if *k < key { *a } else { 0 } }
-        Node::Branch(bit, split, _sum, left, right) => {
+        Node::Offer { key: k, amount: a } => { if *k < key { *a } else { 0 } }
+        Node::Branch {
+            bit,
+            split,
+            left,
+            right,
+            ..
+        } => {
             if key <= *split {
                 sum_under(left, *bit, key)
             } else {
@@ -80,10 +102,16 @@ pub(crate) fn reduce(node: &mut Node, bits: u32, key: u128, to: u64, by: u64)
 {
     match node {
         Node::Idle => {}
-        Node::Offer(_, a) => {
+        Node::Offer { amount: a, .. } => {
             *a = to;
         }
-        Node::Branch(bit, split, sum, left, right) => {
+        Node::Branch {
+            bit,
+            split,
+            sum,
+            left,
+            right,
+        } => {
             *sum -= by;
             if key < *split {
                 reduce(left, *bit, key, to, by);
@@ -133,12 +161,24 @@ fn splice(
     let mut leaf = leaf;
     let mut fork = fork;
     let sum = all(node, bit) + amount;
-    *leaf = Node::Offer(key, amount);
+    *leaf = Node::Offer { key, amount };
     mem::swap(&mut *fork, node);
     if key < split {
-        *node = Node::Branch(bit, split, sum, leaf, fork);
+        *node = Node::Branch {
+            bit,
+            split,
+            sum,
+            left: leaf,
+            right: fork,
+        };
     } else {
-        *node = Node::Branch(bit, split, sum, fork, leaf);
+        *node = Node::Branch {
+            bit,
+            split,
+            sum,
+            left: fork,
+            right: leaf,
+        };
     }
 }
 
@@ -188,11 +228,17 @@ pub(crate) fn place(
             drop(leaf);
             drop(fork);
         }
-        Node::Offer(k, _) => {
+        Node::Offer { key: k, .. } => {
             let base = *k;
             graft(node, bits, base, key, amount, leaf, fork);
         }
-        Node::Branch(bit, split, sum, left, right) => {
+        Node::Branch {
+            bit,
+            split,
+            sum,
+            left,
+            right,
+        } => {
             if key >> (*bit + 1) == *split >> (*bit + 1) {
                 *sum += amount;
                 if key < *split {
@@ -219,10 +265,7 @@ pub(crate) struct Spare {
 pub(crate) fn is_branch(node: &Node) -> bool
     ensures { result ≡ forks node.now }
 {
-    match node {
-        Node::Branch(_, _, _, _, _) => true,
-        _ => false,
-    }
+    matches!(node, Node::Branch { .. })
 }
 
 // Takes the offer out that is one side of a branch: the other side takes the branch's place.
@@ -233,7 +276,12 @@ fn collapse(node: &mut Node, bits: u32, key: u128, by: u64) -> Spare
 {
     let old = mem::replace(node, Node::Idle);
     match old {
-        Node::Branch(_, split, _, left, right) => {
+        Node::Branch {
+            split,
+            left,
+            right,
+            ..
+        } => {
             let mut left = left;
             let mut right = right;
             if key < split {
@@ -263,7 +311,13 @@ pub(crate) fn remove(node: &mut Node, bits: u32, key: u128, by: u64) -> Spare
     ensures { Removed bits key by node.old node.new }
 {
     match node {
-        Node::Branch(bit, split, sum, left, right) => {
+        Node::Branch {
+            bit,
+            split,
+            sum,
+            left,
+            right,
+        } => {
             if key < *split {
                 if is_branch(left) {
                     *sum -= by;
@@ -289,7 +343,7 @@ pub(crate) fn stock(heap: Global, n: usize) -> Result<Vec<Box<Node>>, AllocError
     ensures { IfOk result (λ v. vec_len v ≡ n) }
 {
     let mut v = Vec::new(heap);
-    for i in 0..n {
+    for _ in 0..n {
         v.push(Box::new(heap, Node::Idle)?)?;
     }
     Ok(v)
@@ -302,8 +356,14 @@ pub(crate) fn next(node: &Node, bits: u32, key: u128) -> Option<u128>
 {
     match node {
         Node::Idle => None,
-        Node::Offer(k, _) => { if key < *k { Some(*k) } else { None } }
-        Node::Branch(bit, split, _, left, right) => {
+        Node::Offer { key: k, .. } => { if key < *k { Some(*k) } else { None } }
+        Node::Branch {
+            bit,
+            split,
+            left,
+            right,
+            ..
+        } => {
             if key < *split {
                 match next(left, *bit, key) {
                     Some(k) => Some(k),

@@ -43,9 +43,9 @@ pub(crate) fn start(key: Key) -> Option<u128>
         return Some(code(Key {
             sold: key.sold,
             bought: 7,
-            limit: 4_294_967_295,
-            account: 4_294_967_295,
-            sequence: 4_294_967_295,
+            limit: u32::MAX,
+            account: u32::MAX,
+            sequence: u32::MAX,
         }));
     }
     Some(code(key))

@@ -16,7 +16,7 @@ use trie::Trie;
 mod codes;
 
 // The numbers of the keys of one sold asset.
-const PER_SOLD: u128 = 633_825_300_114_114_700_748_351_602_688;
+const PER_SOLD: u128 = 1 << 99;
 
 #[derive(Drop)]
 pub struct TrieBook {
@@ -71,13 +71,9 @@ impl OfferBook for TrieBook {
     }
 
     fn next(&self, key: Key) -> Option<Key> {
-        let Some(c) = start(key) else {
-            return None;
-        };
-        match self.trie.next(c) {
-            Some(x) => Some(key_of(x)),
-            None => None,
-        }
+        let from = start(key)?;
+        let found = self.trie.next(from)?;
+        Some(key_of(found))
     }
 
     fn up_to(&self, sold: u8, bought: u8, limit: u32) -> u64 {
@@ -95,8 +91,8 @@ impl OfferBook for TrieBook {
             sold,
             bought,
             limit,
-            account: 4_294_967_295,
-            sequence: 4_294_967_295,
+            account: u32::MAX,
+            sequence: u32::MAX,
         });
         self.trie.below(high + 1) - self.trie.below(low)
     }
@@ -111,8 +107,7 @@ impl OfferBook for TrieBook {
         if !in_range(key, units) {
             return Err(Cause::BadOperand.into());
         }
-        let c = code(key);
-        self.trie.place(c, units);
+        self.trie.place(code(key), units);
         Ok(())
     }
 
@@ -124,8 +119,7 @@ impl OfferBook for TrieBook {
         if units > old {
             return Err(Cause::BadOperand.into());
         }
-        let c = code(key);
-        self.trie.reduce(c, units);
+        self.trie.reduce(code(key), units);
         Ok(())
     }
 }

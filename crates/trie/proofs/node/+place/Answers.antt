@@ -12,7 +12,7 @@ graft-requires t c =
     let near = subst (Near c.args.bits c.args.key) is c.requires.near in
     let none = sym (ap (λ n. held n c.args.key) is) ∙ c.requires.absent in
     record {
-      hangs = hangs_offer c.in-Offer.k c.in-Offer.field-1 c.args.key (grind (arith, nat_tests, ok), grind (arith, nat_tests, ok));
+      hangs = hangs_offer c.in-Offer.k c.in-Offer.amount c.args.key (grind (arith, nat_tests, ok), grind (arith, nat_tests, ok));
       small = c.requires.small;
       same = same_block c.in-Offer.k c.args.key c.args.bits (grind (arith, nat_tests, near)) (grind (arith, nat_tests, near));
       differ = λ e. grind (arith, nat_tests, ok, none, e);

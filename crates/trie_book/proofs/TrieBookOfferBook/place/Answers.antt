@@ -21,8 +21,8 @@ returns-then-not-in_range c =
     let t = c.args.self.now.trie in
     record { answer = ap Err c.into-then-not-in_range.ensures ∙ place_out (book_of t.capacity t.root) c.args.key c.args.units (omega (arith, c.amount.ensures)) (omega arith) (sym c.in_range.ensures ∙ c.if-not-in_range.true); after = refl }
 
-pub code-c-requires : goal.code-c-requires
-code-c-requires c =
+pub code-requires : goal.code-requires
+code-requires c =
     let b = key_bits c.args.key (and_parts (fit_key c.args.key) (is_amount c.args.units) (sym c.in_range.ensures ∙ c.if-not-in_range.false)).0 in
     (b.sells, b.buys)
 
@@ -32,8 +32,8 @@ invariant_of-self c =
     let t = s.trie in
     let u = c.place.new.self in
     let e = c.place.ensures in
-    let o = places t.capacity u.capacity t.root u.root c.args.key c.args.units c.code-c.result c.place.result t.ok u.ok s.sound (omega (arith, u.few, u.counted, e.capacity))
-    c.code-c.ensures.value e.capacity e.holds e.done e.count (sym c.in_range.ensures ∙ c.if-not-in_range.false) (omega (arith, c.amount.ensures)) (omega (arith, count_flat t.root)) in
+    let o = places t.capacity u.capacity t.root u.root c.args.key c.args.units c.code.result c.place.result t.ok u.ok s.sound (omega (arith, u.few, u.counted, e.capacity))
+    c.code.ensures.value e.capacity e.holds e.done e.count (sym c.in_range.ensures ∙ c.if-not-in_range.false) (omega (arith, c.amount.ensures)) (omega (arith, count_flat t.root)) in
     record { sound = o.1 }
 
 pub returns : goal.returns
@@ -43,6 +43,6 @@ returns c =
     let u = c.place.new.self in
     let e = c.place.ensures in
     let fit = sym c.in_range.ensures ∙ c.if-not-in_range.false in
-    let o = places t.capacity u.capacity t.root u.root c.args.key c.args.units c.code-c.result c.place.result t.ok u.ok s.sound (omega (arith, u.few, u.counted, e.capacity))
-    c.code-c.ensures.value e.capacity e.holds e.done e.count fit (omega (arith, c.amount.ensures)) (omega (arith, count_flat t.root)) in
+    let o = places t.capacity u.capacity t.root u.root c.args.key c.args.units c.code.result c.place.result t.ok u.ok s.sound (omega (arith, u.few, u.counted, e.capacity))
+    c.code.ensures.value e.capacity e.holds e.done e.count fit (omega (arith, c.amount.ensures)) (omega (arith, count_flat t.root)) in
     record { answer = place_made (book_of t.capacity t.root) c.args.key c.args.units (omega (arith, c.amount.ensures)) (omega arith) fit; after = o.0 }
