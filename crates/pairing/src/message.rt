@@ -32,11 +32,14 @@ pub(crate) trait Message: Drop {
     fn reordered(&self, other: &Self) -> bool
         ensures { Decides result (reorders self.now other.now) };
 
+    // bytes are like themselves
     ghost same: { (bs : List ℕ) → alike bs bs };
 
+    // where both are read, what they say decides
     ghost both_read: { (bs cs : List ℕ) (x y : Self) → says bs x → says cs y
         → (reorders x y → alike bs cs) × (alike bs cs → (bs ≡ cs) ⊎ reorders x y) };
 
+    // refused bytes are like themselves alone
     ghost unread: { (bs cs : List ℕ) (f : Fault) → refuses bs f ⊎ refuses cs f → alike bs cs → bs ≡ cs };
 }
 

@@ -119,7 +119,8 @@ fn eight(s: State, w: &[u32; 64], t: usize) -> State
     s
 }
 
-// Eight words more of a message schedule of n + 16 words.
+// Eight words more of a message schedule of n + 16 words. It goes by places, since each word is made of those 2, 7, 15 and
+// 16 places before it.
 fn extend(w: &mut [u32; 64], n: usize)
     requires { n + 24 ≤ 64 }
     ensures { (first : List ℕ) → take (n + 16) w.old ≡ schedule n first
@@ -147,7 +148,7 @@ fn load(block: &[u8; 64]) -> [u32; 64]
 }
 
 // The 64 rounds over a block. The message schedule is written as they go, eight words at a time: so the processor can work
-// at both at once.
+// at both at once. Each turn is a step of eight places in both.
 fn rounds(start: State, block: &[u8; 64]) -> State
     ensures { result ≡ rounds_of 64 (schedule 48 (words_of 16 block.now)) start }
 {
@@ -161,7 +162,7 @@ fn rounds(start: State, block: &[u8; 64]) -> State
     eight(last, &w, 56)
 }
 
-// The sums of two states, word by word.
+// The sums of two states, word by word, by the standard's names.
 fn add(s: State, t: State) -> State
     ensures { result ≡ sum_of s t }
 {

@@ -20,6 +20,7 @@ fn million() -> [u8; 32]
 {
     let piece = [b'a'; 999];
     let mut hasher = Hasher::new();
+    // the count has a name for the loop's invariant
     for _i in 0..1001usize {
         hasher.update(&piece);
     }
