@@ -3,24 +3,23 @@
 // limit. Nothing is promised of the sums, which only keep the work from being left out. Assumes nothing.
 #![tactic(auto)]
 
+ghost use Rattle.std.specs.Prelude.{◌≤◌};
+
 use offers::OfferBook;
 use ordered_book::OrderedBook;
 use std::alloc::Global;
 use terms::{Key, Offer};
 use trie_book::TrieBook;
 
-const LOWEST: Key = Key {
-    sold: 0,
-    bought: 0,
-    limit: 0,
-    account: 0,
-    sequence: 0,
-};
-
-const BLANK: Offer = Offer {
-    key: LOWEST,
-    amount: 0,
-};
+// What a run does: so many books, and of each so many look-ups, walks and sums, over keys in turn or scattered ones.
+#[derive(Clone, Copy)]
+struct Load {
+    repeat: u32,
+    lookups: u32,
+    walks: u32,
+    reaches: u32,
+    scattered: bool,
+}
 
 // Scatters numbers over all of 32 bits. Different for different i.
 fn scatter(i: u32) -> u32 {
@@ -56,7 +55,7 @@ fn nth(i: u32, scattered: bool) -> Key {
 fn place_all<B: OfferBook>(book: &mut B, count: u32, scattered: bool) -> u64 {
     let mut placed: u64 = 0;
     for i in 0..count {
-        if let Ok(_) = book.place(nth(i, scattered), 1000) {
+        if book.place(nth(i, scattered), 1000).is_ok() {
             placed = placed.wrapping_add(1);
         }
     }
@@ -77,12 +76,12 @@ fn look_up<B: OfferBook>(book: &B, count: u32, times: u32, scattered: bool) -> u
 fn walk<B: OfferBook>(book: &B, times: u32) -> u64 {
     let mut sum: u64 = 0;
     for _ in 0..times {
-        let mut at = LOWEST;
+        let mut at = Key::default();
         for _ in 0..book.count() {
-            match book.next(at) {
-                Some(key) => at = key,
-                None => break,
-            }
+            let Some(key) = book.next(at) else {
+                break;
+            };
+            at = key;
             sum = sum.wrapping_add(at.limit as u64);
         }
     }
@@ -101,34 +100,28 @@ fn reach<B: OfferBook>(book: &B, count: u32, times: u32, scattered: bool) -> u64
     sum
 }
 
-fn exercise<B: OfferBook>(
-    book: &mut B,
-    lookups: u32,
-    walks: u32,
-    reaches: u32,
-    scattered: bool,
-) -> u64 {
+fn exercise<B: OfferBook>(book: &mut B, load: Load) -> u64 {
     let count = book.capacity();
-    place_all(book, count, scattered)
-        .wrapping_add(look_up(book, count, lookups, scattered))
-        .wrapping_add(walk(book, walks))
-        .wrapping_add(reach(book, count, reaches, scattered))
+    place_all(book, count, load.scattered)
+        .wrapping_add(look_up(book, count, load.lookups, load.scattered))
+        .wrapping_add(walk(book, load.walks))
+        .wrapping_add(reach(book, count, load.reaches, load.scattered))
 }
 
-fn ordered(
-    slots: &mut [Offer],
-    repeat: u32,
-    lookups: u32,
-    walks: u32,
-    reaches: u32,
-    scattered: bool,
-) -> u64 {
+fn exercise_ordered(slots: &mut [Offer], load: Load) -> u64 {
     let mut sum: u64 = 0;
-    for _ in 0..repeat {
+    for _ in 0..load.repeat {
         let mut book = OrderedBook::new(&mut *slots);
-        sum = sum.wrapping_add(exercise(&mut book, lookups, walks, reaches, scattered));
+        sum = sum.wrapping_add(exercise(&mut book, load));
     }
     sum
+}
+
+// Ordered books of N slots.
+fn ordered<const N: usize>(load: Load) -> u64
+    requires { N ≤ 65536 }
+{
+    exercise_ordered(&mut [Offer::default(); N], load)
 }
 
 #[unsafe(no_mangle)]
@@ -139,8 +132,13 @@ pub extern "C" fn ordered_small(
     reaches: u32,
     scattered: bool,
 ) -> u64 {
-    let mut slots = [BLANK; 256];
-    ordered(&mut slots, repeat, lookups, walks, reaches, scattered)
+    ordered::<256>(Load {
+        repeat,
+        lookups,
+        walks,
+        reaches,
+        scattered,
+    })
 }
 
 #[unsafe(no_mangle)]
@@ -151,8 +149,13 @@ pub extern "C" fn ordered_large(
     reaches: u32,
     scattered: bool,
 ) -> u64 {
-    let mut slots = [BLANK; 65_536];
-    ordered(&mut slots, repeat, lookups, walks, reaches, scattered)
+    ordered::<65_536>(Load {
+        repeat,
+        lookups,
+        walks,
+        reaches,
+        scattered,
+    })
 }
 
 // A trie of n nodes; 0 where memory is wanting.
@@ -166,15 +169,19 @@ pub extern "C" fn trie_of(
     reaches: u32,
     scattered: bool,
 ) -> u64 {
+    let load = Load {
+        repeat,
+        lookups,
+        walks,
+        reaches,
+        scattered,
+    };
     let mut sum: u64 = 0;
     for _ in 0..repeat {
-        match TrieBook::new(heap, nodes) {
-            Ok(made) => {
-                let mut book = made;
-                sum = sum.wrapping_add(exercise(&mut book, lookups, walks, reaches, scattered));
-            }
-            Err(_) => return 0,
-        }
+        let Ok(mut book) = TrieBook::new(heap, nodes) else {
+            return 0;
+        };
+        sum = sum.wrapping_add(exercise(&mut book, load));
     }
     sum
 }
