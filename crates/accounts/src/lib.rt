@@ -10,7 +10,6 @@ ghost use Rattle.ordered.specs.Places.{told};
 ghost use Rattle.accounts.specs.Changes.{open_answer, balance_answer, floor_answer, grant_answer, Opened, BalanceSet, FloorSet, Granted};
 
 pub use terms::refusal;
-
 use terms::{Account, Cause, Fault, are_balances};
 
 // As many accounts as a store may have, however much memory it is lent.

@@ -54,4 +54,3 @@ placed t = places t.source t.sequence t.action
 
 abbrev pub cancelled : Transaction → List Key
 cancelled t = cancels t.source t.action
-
