@@ -75,8 +75,7 @@ pub fn new_account(number: u32) -> Account
 {
     Account {
         number,
-        floor: 0,
-        balances: [0; 8],
+        ..Account::default()
     }
 }
 

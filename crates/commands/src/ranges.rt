@@ -1,28 +1,16 @@
 // Whether a command's operands are in range.
 ghost use Rattle.std.specs.Prelude.{◌≡◌};
-ghost use Rattle.terms.specs.Ranges.{is_pair, is_amount, is_price, is_word, is_number};
+ghost use Rattle.terms.specs.Ranges.{is_price, is_word, is_number};
 ghost use Rattle.commands.specs.Format.{balances as balances_at, fit};
 ghost use Rattle.commands.specs.Shown.{shown};
 
 use crate::command::Command;
 use crate::parser::long;
 use std::array;
-use terms::{MAX_BALANCE, are_balances};
+use terms::{are_balances, is_amount, is_pair};
 
 // The highest price, 2^24 - 1.
 const MAX_PRICE: u32 = 16_777_215;
-
-fn is_pair(sold: u8, bought: u8) -> bool
-    ensures { result ≡ is_pair sold bought }
-{
-    sold < 8 && bought < 8 && sold != bought
-}
-
-fn is_amount(amount: u64) -> bool
-    ensures { result ≡ is_amount amount }
-{
-    amount > 0 && amount <= MAX_BALANCE
-}
 
 fn is_price(price: u32) -> bool
     ensures { result ≡ is_price price }

@@ -10,7 +10,7 @@ ghost use Rattle.judging_rules.specs.Rows.{Row, scene, no_store, no_book, deal};
 ghost use Rattle.judging_prices.specs.Worth.{worth_of};
 
 use tally::{Rule, report};
-use terms::{Cause, Fault, Volume};
+use terms::{ASSETS, Cause, Fault, Volume};
 
 // As many pairs as there are.
 pub const MAX_VOLUMES: usize = 56;
@@ -53,9 +53,6 @@ fn worth_bought(prices: &[u32; 8], volumes: &[Volume], asset: u8) -> u128
         .map(|v| worth(prices, *v))
         .sum()
 }
-
-// The assets.
-const ASSETS: [u8; 8] = [0, 1, 2, 3, 4, 5, 6, 7];
 
 // Of an asset no less is sold than is sold for it, by worth.
 #[derive(Drop)]

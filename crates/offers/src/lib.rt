@@ -9,10 +9,8 @@ ghost use Rattle.terms.specs.Holdings.{Book, sound_book, amount_at, offered_of, 
 ghost use Rattle.ordered.specs.Places.{told};
 ghost use Rattle.offers.specs.Changes.{place_answer, reduce_answer, taken, replace_answer, Placed, Reduced, Replaced};
 
-use terms::{Cause, Fault, Key};
-
-// The largest amount, 2^36 - 1.
-pub const MAX_AMOUNT: u64 = 68_719_476_735;
+pub use terms::MAX_AMOUNT;
+use terms::{Cause, Fault, Key, is_amount, is_pair};
 
 pub trait OfferBook {
     // what it means
@@ -60,13 +58,13 @@ pub trait OfferBook {
 pub fn in_range(key: Key, units: u64) -> bool
     ensures { result ≡ (fit_key key && is_amount units) }
 {
-    is_key(key) && units > 0 && units <= MAX_AMOUNT
+    is_key(key) && is_amount(units)
 }
 
 fn is_key(key: Key) -> bool
     ensures { result ≡ fit_key key }
 {
-    key.sold < 8 && key.bought < 8 && key.sold != key.bought && key.limit > 0 && key.account > 0
+    is_pair(key.sold, key.bought) && key.limit > 0 && key.account > 0
 }
 
 // Whether an offer other than `old` stands at `new`.

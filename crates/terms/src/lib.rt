@@ -8,7 +8,7 @@ mod ranges;
 mod text;
 
 pub use causes::{Cause, UnknownCause, fault_at, refusal};
-pub use ranges::{MAX_BALANCE, are_balances};
+pub use ranges::{ASSETS, MAX_AMOUNT, MAX_BALANCE, are_balances, is_amount, is_pair};
 pub use text::Hex;
 
 // What is kept of an account: its number, the highest sequence number that it has used, and its eight free balances.
