@@ -27,11 +27,9 @@ pub(crate) fn standing_ahead<B: OfferBook>(book: &B, key: Key) -> u64
     ensures { result ≡ sum_ahead key (B.book book.now).offers }
 {
     let first = Key {
-        sold: key.sold,
-        bought: key.bought,
-        limit: key.limit,
         account: 0,
         sequence: 0,
+        ..key
     };
     let lower = book.up_to(key.sold, key.bought, key.limit.saturating_sub(1));
     lower + sum_between(book, first, key)

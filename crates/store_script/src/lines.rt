@@ -1,5 +1,6 @@
 // Lines to commands. Assumes nothing of a line.
-ghost use Rattle.std.specs.Prelude.{◌≡◌, ◌+◌, OnSome};
+ghost use Rattle.std.specs.Prelude.{◌≡◌, ◌+◌, Ok, IfSome, OnSome};
+ghost use Rattle.terms.specs.Order.{words};
 ghost use Rattle.arrayvec.specs.ArrayVec.{array_vec_len};
 
 use crate::ask::{AccountAsk, Ask, OfferAsk};
@@ -173,7 +174,9 @@ fn offer_ask(verb: OfferVerb, numbers: &[u64]) -> Option<OfferAsk> {
 }
 
 // The key by its five numbers.
-fn key_of(numbers: &[u64]) -> Option<Key> {
+fn key_of(numbers: &[u64]) -> Option<Key>
+    ensures { IfSome result (λ key. words key ≡ numbers.now) }
+{
     let [sold, bought, limit, account, sequence] = numbers else {
         return None;
     };
@@ -190,6 +193,7 @@ fn key_of(numbers: &[u64]) -> Option<Key> {
 fn fit<T: TryFrom<u64>>(number: &u64) -> Option<T>
 where
     T::Error: Drop,
+    ensures { IfSome result (λ fitted. T.try_from_gives number.now (Ok fitted)) }
 {
     T::try_from(*number).ok()
 }
