@@ -1,4 +1,5 @@
 pub mod Sound
+pub mod Eights
 pub mod Edits
 pub mod Replies
 pub mod Grants

@@ -3,14 +3,14 @@
 // No function asks anything of its caller, and questions and refusals change no meaning.
 #![tactic(auto)]
 
-ghost use Rattle.std.specs.Prelude.{◌≡◌, ℕ, ◌+◌, ◌<◌, ◌≤◌, List, [], ◌∷◌, length, replicate, if◌then◌else◌, MatchResult, true};
+ghost use Rattle.std.specs.Prelude.{◌≡◌, ℕ, ◌+◌, ◌<◌, ◌≤◌, List, [], ◌∷◌, length, map, replicate, if◌then◌else◌, MatchResult, true};
 ghost use Rattle.terms.specs.Order.{name, above};
 ghost use Rattle.terms.specs.Holdings.{Store, sound_store, standing, floor_at, balance_at, free_of};
 ghost use Rattle.ordered.specs.Places.{told};
 ghost use Rattle.accounts.specs.Changes.{open_answer, balance_answer, floor_answer, grant_answer, Opened, BalanceSet, FloorSet, Granted};
 
 pub use terms::refusal;
-use terms::{Account, Cause, Fault, are_balances};
+use terms::{ASSETS, Account, Cause, Fault, are_balances};
 
 // As many accounts as a store may have, however much memory it is lent.
 pub const MAX_ACCOUNTS: usize = 65_536;
@@ -77,6 +77,13 @@ pub fn new_account(number: u32) -> Account
         number,
         ..Account::default()
     }
+}
+
+// The eight free balances of an account, by rising asset: 0 for an absent account.
+pub fn balances<S: AccountStore>(store: &S, number: u32) -> [u64; 8]
+    ensures { result ≡ map (balance_at (S.store store.now) number) (0 ∷ 1 ∷ 2 ∷ 3 ∷ 4 ∷ 5 ∷ 6 ∷ 7 ∷ []) }
+{
+    ASSETS.map(move |asset| store.balance(number, asset))
 }
 
 // Opens an account with these balances. Refuses with 31 where one is out of range, else as `open` does, and never

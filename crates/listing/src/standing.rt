@@ -1,9 +1,9 @@
 // The lines that say what a replica holds: its remainders, its accounts by rising number, its offers by rising key, its
 // digest, and its counts.
-ghost use Rattle.std.specs.Prelude.{◌≡◌, ◌++◌, true, length, map, OnOk};
+ghost use Rattle.std.specs.Prelude.{◌≡◌, ◌++◌, true, length, OnOk};
 ghost use Rattle.std.specs.List.{ContainsAt as Has};
 ghost use Rattle.terms.specs.declared.Account.{Account};
-ghost use Rattle.terms.specs.Holdings.{sound_store, sound_book, balance_at};
+ghost use Rattle.terms.specs.Holdings.{sound_store, sound_book};
 ghost use Rattle.listing.specs.Lines.{account_lines, offer_lines, state_lines, counts_line};
 
 use crate::line::Line;
@@ -11,23 +11,13 @@ use accounts::AccountStore;
 use offers::OfferBook;
 use replica::Replica;
 use std::alloc::AllocError;
-use terms::{Account, Key, Offer};
-
-// The assets, by their numbers.
-const ASSETS: [u8; 8] = [0, 1, 2, 3, 4, 5, 6, 7];
+use terms::{ASSETS, Account, Key, Offer};
 
 // The eight remainders.
 fn remainders<S: AccountStore, B: OfferBook>(replica: &Replica<S, B>) -> [u64; 8]
     ensures { length replica.now.own.remainders ≡ 8 → result ≡ replica.now.own.remainders }
 {
     ASSETS.map(|asset| replica.remainder(asset))
-}
-
-// The eight balances of an account.
-fn balances<S: AccountStore, B: OfferBook>(replica: &Replica<S, B>, number: u32) -> [u64; 8]
-    ensures { result ≡ map (balance_at replica.now.store number) ASSETS }
-{
-    ASSETS.map(move |asset| replica.balance(number, asset))
 }
 
 // An account that stands: its number, its floor and its balances.
@@ -38,7 +28,7 @@ fn account<S: AccountStore, B: OfferBook>(replica: &Replica<S, B>, number: u32) 
     Account {
         number,
         floor: replica.floor(number),
-        balances: balances(replica, number),
+        balances: replica.balances(number),
     }
 }
 
@@ -58,7 +48,7 @@ fn push_accounts<S: AccountStore, B: OfferBook>(
     Ok(())
 }
 
-// Adds a line for each offer, by rising key, asked for in the same way.
+// Adds a line for each offer, by rising key. A replica lends no list: each step asks for the next.
 fn push_offers<S: AccountStore, B: OfferBook>(
     replica: &Replica<S, B>,
     lines: &mut Vec<Line>,

@@ -45,6 +45,7 @@ fn take_block<S: AccountStore, B: OfferBook>(
 }
 
 // Takes block after block, and adds a line for each, until the bytes are used up or no further end can be found.
+// The bytes are no list of pieces: how long a piece is, is known only when it is cut off.
 fn take_blocks<S: AccountStore, B: OfferBook>(
     replica: &mut Replica<S, B>,
     bytes: &[u8],

@@ -1,5 +1,5 @@
 // The questions that a replica answers: about its own numbers, its store and its book. None changes anything.
-ghost use Rattle.std.specs.Prelude.{◌≡◌, [], ◌∷◌, length, if◌then◌else◌, true};
+ghost use Rattle.std.specs.Prelude.{◌≡◌, [], ◌∷◌, length, map, if◌then◌else◌, true};
 ghost use Rattle.terms.specs.Order.{name, words, place, above};
 ghost use Rattle.terms.specs.Holdings.{sound_store, sound_book, standing, floor_at, balance_at, free_of, amount_at, offered_of, up_to};
 ghost use Rattle.ordered.specs.Places.{told};
@@ -80,6 +80,13 @@ impl<S: AccountStore, B: OfferBook> Replica<S, B> {
         ensures { result ≡ balance_at self.now.store number asset }
     {
         self.store.balance(number, asset)
+    }
+
+    // The eight free balances of an account, by rising asset: 0 for an absent account.
+    pub fn balances(&self, number: u32) -> [u64; 8]
+        ensures { result ≡ map (balance_at self.now.store number) (0 ∷ 1 ∷ 2 ∷ 3 ∷ 4 ∷ 5 ∷ 6 ∷ 7 ∷ []) }
+    {
+        accounts::balances(&self.store, number)
     }
 
     // The highest sequence number that an account has used: 0 for an absent account.

@@ -11,7 +11,7 @@ ghost use Rattle.sha256.specs.Streaming.{Holds};
 ghost use Rattle.exchange.specs.State.{State};
 ghost use Rattle.exchange.specs.Commit.{account_bytes, key_bytes, offer_bytes, digest_of};
 
-use accounts::AccountStore;
+use accounts::{AccountStore, balances};
 use offers::OfferBook;
 use sha256::Hasher;
 use terms::Key;
@@ -66,17 +66,6 @@ fn add_account<S: AccountStore>(hasher: &mut Hasher, store: &S, number: u32)
     hasher.update(&number.to_be_bytes());
     hasher.update(&store.floor(number).to_be_bytes());
     add_amounts(hasher, &balances(store, number));
-}
-
-// The eight balances of an account that stands.
-fn balances<S: AccountStore>(store: &S, number: u32) -> [u64; 8]
-    ensures { (a : Account) → Has (S.store store.now).accounts a → a.number ≡ number → result ≡ a.balances }
-{
-    let mut balances = [0; 8];
-    for asset in 0u8..8 {
-        balances[asset as usize] = store.balance(number, asset);
-    }
-    balances
 }
 
 // Takes all offers, by rising key.

@@ -1,4 +1,4 @@
-use Rattle.std.proofs.Common.{Ok, Err, sym}
+use Rattle.std.proofs.Common.{Ok, sym}
 use Rattle.std.proofs.lemmas.Result.{err_from_is_err_and}
 use Rattle.listing.proofs.Streaming.{committed, refused, never}
 use Rattle.listing.proofs.stream.take_block.Goals as goal

@@ -1,12 +1,12 @@
 use Rattle.std.proofs.Common.{◌≡◌, ◌∙◌, rules}
 use Rattle.terms.specs.Holdings.{balance_at}
-use Rattle.listing.proofs.Eights.{listed}
-use Rattle.listing.proofs.standing.balances.Goals as goal
+use Rattle.accounts.proofs.Eights.{listed}
+use Rattle.accounts.proofs.balances.Goals as goal
 
 -- each call of the closure gave a balance
 pub returns : goal.returns
 returns g c =
-    let st = c.args.replica.now.store in
+    let st = g.S.AccountStore.store c.args.store.now in
     let n = c.args.number in
     let e0 = c.map.ensures.items.each in
     let e1 = e0.6 in

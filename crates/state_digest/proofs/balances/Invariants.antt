@@ -1,8 +1,0 @@
-use Rattle.std.proofs.Common.{◌≡◌, ℕ, ◌<◌, length, get_or}
-use Rattle.terms.specs.Holdings.{balance_at}
-use Rattle.state_digest.proofs.balances.Given as goal
-
-abbrev pub invariant-loop-asset : goal.invariant-loop-asset
-invariant-loop-asset g l =
-    (length l.balances ≡ 8)
-    × ((x : ℕ) → x < l.asset → get_or l.balances x 0 ≡ balance_at (g.S.AccountStore.store l.store) l.number x)
