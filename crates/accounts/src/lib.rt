@@ -100,8 +100,8 @@ pub fn open_with<S: AccountStore>(
         return Err(Cause::BadOperand.into());
     }
     store.open(number)?;
-    for x in 0u8..8 {
-        store.set_balance(number, x, balances[x as usize])?;
+    for (asset, balance) in balances.iter().enumerate() {
+        store.set_balance(number, asset as u8, *balance)?;
     }
     Ok(())
 }

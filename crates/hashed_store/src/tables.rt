@@ -31,6 +31,8 @@ fn hash(number: u32, size: usize) -> usize
 }
 
 // The bucket that holds the number, or the first free one, from the bucket h on.
+// Two loops, for speed: with `split_at(h)` and a `position` in each part, which was proved too, a look-up among 256
+// scattered accounts took 15.7 ns beside 14.1, and a step of a walk 15.4 beside 7.6.
 fn probe_from(buckets: &[Entry], number: u32, h: usize) -> Probe
     requires { (h ≤ length buckets.now) × (0 < number) }
     ensures { Probed number h buckets.now result }

@@ -175,7 +175,8 @@ impl<'a, R: Keyed> Table<'a, R> {
     }
 
     // Puts a record in at a place, and those from there on move one place up. False where the place lies past the
-    // end or no slot is free; then nothing changes.
+    // end or no slot is free; then nothing changes. True and false as of `HashSet::insert`: no value stands beside the
+    // flag.
     pub fn insert(&mut self, at: usize, item: R) -> bool
         ensures done { result ≡ (nat_le at (length self.old.records) && nat_lt (length self.old.records) self.old.capacity) }
         ensures after { self.new ≡ (if result then record { records = insert self.old.records at item; capacity = self.old.capacity } else self.old) }

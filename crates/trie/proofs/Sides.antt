@@ -5,6 +5,7 @@ use Rattle.std.proofs.lemmas.Bool.Decides.{nat_tests}
 use Rattle.trie.specs.Trie.{held, under, total, offers, Amount, within, ordered, Ordered, Whole, Parted, Placed, Removed, forks, Near, Hangs, Next}
 use Rattle.trie.proofs.Numbers.{block, Fork, fork, same_block, in_block, above}
 use Rattle.std.specs.Box.{with_value}
+use Rattle.std.specs.Option.{MatchOption}
 use Rattle.trie.specs.declared.node.Node.{Node, Branch}
 use Rattle.trie.specs.declared.node.Node.TheVariants.{Idle, Offer, Branch'}
 use Rattle.std.specs.declared.alloc.Global.{Global}
@@ -360,6 +361,11 @@ next_left {bits} {bit} {split} {sum} {t} {l} {r} s key k n =
 pub next_right : {bits bit split sum : ℕ} {t l r : Node} → Sides bits bit split sum t l r → (key : ℕ) (o : Option ℕ) → ((x : ℕ) → key < x → held l x ≡ 0) → Next key r o → Next key t o
 next_right s key None none n = λ x h. omega (arith, s.both x, none x h, n x h)
 next_right s key (Some k) none n = (n.0, omega (arith, n.1, s.both k), λ x a b. omega (arith, s.both x, none x a, n.2 x a b))
+
+-- the left side's answer, or the right side's where there is none
+pub next_either : {bits bit split sum : ℕ} {t l r : Node} → Sides bits bit split sum t l r → (key : ℕ) (p o : Option ℕ) → Next key l p → MatchOption p (Next key r o) (λ k. o ≡ Some k) → Next key t o
+next_either s key None o none n = next_right s key o none n
+next_either {bits} {bit} {split} {sum} {t} {l} {r} s key (Some k) o n is = subst (Next key t) (sym is) (next_left s key k n)
 
 pub left_none : {bits bit split sum : ℕ} {t l r : Node} → Sides bits bit split sum t l r → (key : ℕ) → split ≤ key → (x : ℕ) → key < x → held l x ≡ 0
 left_none {bits} {bit} {split} {sum} {t} {l} {r} s key h x a = held_above l (split - 2 ^ bit) split x s.left_in (omega arith)

@@ -100,6 +100,7 @@ impl Trie {
 
     // Adds a key with an amount. False where the key stands, all room is taken, the key has more than 102 bits, or the
     // amount is out of range; then nothing changes.
+    // True and false as of `HashSet::insert`: no value stands beside the flag.
     pub fn place(&mut self, key: u128, units: u64) -> bool
         ensures done { result ≡ placeable self.old.root self.old.capacity key units }
         ensures capacity { self.new.capacity ≡ self.old.capacity }
@@ -117,7 +118,7 @@ impl Trie {
     }
 
     // Sets a standing key to a smaller or equal amount; 0 takes it out. False where it does not stand or has less;
-    // then nothing changes.
+    // then nothing changes. True and false as of `HashSet::insert`: no value stands beside the flag.
     pub fn reduce(&mut self, key: u128, units: u64) -> bool
         ensures done { result ≡ reducible self.old.root key units }
         ensures capacity { self.new.capacity ≡ self.old.capacity }
@@ -146,13 +147,8 @@ impl Trie {
             self.count = 1;
             return;
         }
-        let Some(leaf) = self.spare.pop() else {
-            return unreachable();
-        };
-        let Some(fork) = self.spare.pop() else {
-            return unreachable();
-        };
-        node::place(&mut self.root, BITS, key, units, leaf, fork);
+        let spare = Spare::take(&mut self.spare);
+        node::place(&mut self.root, BITS, key, units, spare);
         self.count += 1;
     }
 

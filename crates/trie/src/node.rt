@@ -1,6 +1,6 @@
 // The nodes of the trie and the descent through them. A descent takes the number of key bits that the subtree may still
 // part at; each branch parts at a lower bit than the one above it. Assumes what each function requires.
-ghost use Rattle.std.specs.Prelude.{◌≡◌, ℕ, ◌+◌, ◌-◌, ◌*◌, ◌/◌, ◌%◌, ◌^◌, ◌<◌, ◌≤◌, true, IfOk, if◌then◌else◌, vec_len, ◌≢◌, nat_eq};
+ghost use Rattle.std.specs.Prelude.{◌≡◌, ℕ, ◌+◌, ◌-◌, ◌*◌, ◌/◌, ◌%◌, ◌^◌, ◌<◌, ◌≤◌, true, IfOk, if◌then◌else◌, vec_len, vec_capacity, ◌≢◌, nat_eq};
 ghost use Rattle.trie.specs.Trie.{held, under, total, offers, within, Ordered, Near, Hangs, Parted, Placed, Removed, forks, Lone, Amount, Next};
 
 use std::alloc::{AllocError, Global};
@@ -139,17 +139,29 @@ fn parting(a: u128, b: u128, bits: u32) -> u32
     }
 }
 
+// The boxes that one key more needs, of its offer and of the branch above it.
+#[derive(Drop)]
+pub(crate) struct Spare {
+    pub(crate) leaf: Box<Node>,
+    pub(crate) fork: Box<Node>,
+}
+
+impl Spare {
+    // Takes two boxes from the stock.
+    pub(crate) fn take(stock: &mut Vec<Box<Node>>) -> Spare
+        requires { 2 ≤ vec_len stock.old }
+        ensures len { vec_len stock.new + 2 ≡ vec_len stock.old }
+        ensures capacity { vec_capacity stock.new ≡ vec_capacity stock.old }
+    {
+        match (stock.pop(), stock.pop()) {
+            (Some(leaf), Some(fork)) => Spare { leaf, fork },
+            _ => unreachable(),
+        }
+    }
+}
+
 // Puts a branch in the node's place, with the node on one side and a new offer on the other.
-fn splice(
-    node: &mut Node,
-    bits: u32,
-    bit: u32,
-    split: u128,
-    key: u128,
-    amount: u64,
-    leaf: Box<Node>,
-    fork: Box<Node>,
-)
+fn splice(node: &mut Node, bits: u32, bit: u32, split: u128, key: u128, amount: u64, spare: Spare)
     requires ok { Ordered bit node.old }
     requires falls { bit < bits }
     requires middle { split % 2 ^ (bit + 1) ≡ 2 ^ bit }
@@ -158,8 +170,7 @@ fn splice(
     requires some { Amount amount }
     ensures { Placed bits key amount node.old node.new }
 {
-    let mut leaf = leaf;
-    let mut fork = fork;
+    let Spare { mut leaf, mut fork } = spare;
     let sum = all(node, bit) + amount;
     *leaf = Node::Offer { key, amount };
     mem::swap(&mut *fork, node);
@@ -183,15 +194,7 @@ fn splice(
 }
 
 // The same, at the highest bit at which the new key differs from `base`, a number that is like the keys of the node.
-fn graft(
-    node: &mut Node,
-    bits: u32,
-    base: u128,
-    key: u128,
-    amount: u64,
-    leaf: Box<Node>,
-    fork: Box<Node>,
-)
+fn graft(node: &mut Node, bits: u32, base: u128, key: u128, amount: u64, spare: Spare)
     requires hangs { Hangs base key node.old }
     requires small { bits < 128 }
     requires same { base / 2 ^ bits ≡ key / 2 ^ bits }
@@ -203,18 +206,11 @@ fn graft(
     let bit = parting(base, key, bits);
     let top = base.max(key);
     let split = (top >> bit) << bit;
-    splice(node, bits, bit, split, key, amount, leaf, fork);
+    splice(node, bits, bit, split, key, amount, spare);
 }
 
 // Adds an offer.
-pub(crate) fn place(
-    node: &mut Node,
-    bits: u32,
-    key: u128,
-    amount: u64,
-    leaf: Box<Node>,
-    fork: Box<Node>,
-)
+pub(crate) fn place(node: &mut Node, bits: u32, key: u128, amount: u64, spare: Spare)
     requires ok { Ordered bits node.old }
     requires near { Near bits key node.old }
     requires absent { held node.old key ≡ 0 }
@@ -224,13 +220,10 @@ pub(crate) fn place(
     ensures { Placed bits key amount node.old node.new }
 {
     match node {
-        Node::Idle => {
-            drop(leaf);
-            drop(fork);
-        }
+        Node::Idle => {}
         Node::Offer { key: k, .. } => {
             let base = *k;
-            graft(node, bits, base, key, amount, leaf, fork);
+            graft(node, bits, base, key, amount, spare);
         }
         Node::Branch {
             bit,
@@ -242,23 +235,16 @@ pub(crate) fn place(
             if key >> (*bit + 1) == *split >> (*bit + 1) {
                 *sum += amount;
                 if key < *split {
-                    place(left, *bit, key, amount, leaf, fork);
+                    place(left, *bit, key, amount, spare);
                 } else {
-                    place(right, *bit, key, amount, leaf, fork);
+                    place(right, *bit, key, amount, spare);
                 }
             } else {
                 let base = *split;
-                graft(node, bits, base, key, amount, leaf, fork);
+                graft(node, bits, base, key, amount, spare);
             }
         }
     }
-}
-
-// Two boxes that the trie no longer needs.
-#[derive(Drop)]
-pub(crate) struct Spare {
-    pub(crate) leaf: Box<Node>,
-    pub(crate) fork: Box<Node>,
 }
 
 // Whether the node has two sides.
@@ -365,10 +351,12 @@ pub(crate) fn next(node: &Node, bits: u32, key: u128) -> Option<u128>
             ..
         } => {
             if key < *split {
-                match next(left, *bit, key) {
-                    Some(k) => Some(k),
-                    None => next(right, *bit, key),
-                }
+                next(left, *bit, key).or_else(
+                    ||
+                        requires { Ordered bit.now right.now.value }
+                        ensures { Next key right.entry.now.value result }
+                    { next(right, *bit, key) },
+                )
             } else {
                 next(right, *bit, key)
             }

@@ -25,14 +25,13 @@ invariant_of-self-2 c =
     let s = c.args.self.now in
     let w = of_whole s.root s.ok (omega arith) in
     let e = c.place.ensures in
-    let a = c.in-Some.ensures in
-    let b = c.in-Some-pop.ensures in
+    let taken = c.take-spare.ensures in
     let whole = to_whole c.place.new.node e.ok (e.keys 0 (2 ^ 102) w.1 (omega arith) c.requires.range) in
     record {
       ok = whole;
       counted = omega (arith, e.more);
       few = omega arith;
-      stock = omega (arith, a.cases, b.cases);
-      room = omega (arith, a.capacity, b.capacity);
+      stock = omega (arith, taken.len);
+      room = omega (arith, taken.capacity);
       small = omega arith;
     }
