@@ -1,6 +1,7 @@
 // The book's part of clearing a block: its cancelled offers leave the book, and its new offers enter. All cancelled ones
 // are to leave before any new one enters, since the new ones may need their room.
-// Assumes nothing: where an offer can't leave or enter, the book's refusal is handed on, and the rest is left undone.
+// Assumes nothing: where an offer can't leave or enter, the book's refusal is handed on, and the rest is left undone. Each
+// step is a loop of its own: of a closure that changes the book, a proof would not know what it leaves.
 #![tactic(auto)]
 
 ghost use Rattle.std.specs.List.{flat_map};

@@ -1,6 +1,7 @@
 // The store's part of clearing a block: the nets of payments, new and cancelled offers reach the balances, floors rise
 // to the sequence numbers used, and new accounts open.
-// Assumes nothing: where a change can't be made, the refusal is handed on, and the rest is left undone.
+// Assumes nothing: where a change can't be made, the refusal is handed on, and the rest is left undone. Each step is a loop of
+// its own: of a closure that changes the store, a proof would not know what it leaves.
 #![tactic(auto)]
 
 ghost use Rattle.std.specs.Prelude.{◌≡◌, [], ◌∷◌, if◌then◌else◌, Some, None};

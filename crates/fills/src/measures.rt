@@ -1,5 +1,6 @@
 // What transactions place and cancel under a key and ahead of it, and what the volumes sell of its pair: sums over a block.
-// Assumes no more than that a list has fewer than 2^64 entries, so that the sums fit.
+// Assumes no more than that a list has fewer than 2^64 entries, so that the sums fit. The sums differ in their test alone;
+// with the test as a closure parameter, their bounds were not proved.
 ghost use Rattle.std.specs.Prelude.{◌≡◌, ◌<◌, ◌^◌, [], ◌∷◌, length, filter, if◌then◌else◌, sum_by};
 ghost use Rattle.terms.specs.Order.{same, words, place};
 ghost use Rattle.terms.specs.Asked.{placed, cancelled};

@@ -73,7 +73,7 @@ fn accounts_fit<S: AccountStore>(store: &S, grants: &[Grant]) -> Result<(), Faul
     Ok(())
 }
 
-// 23: of no asset is more granted than the largest balance.
+// 23: of no asset is more granted than the largest balance. The number of the asset is asked for and named in the fault.
 fn amounts_fit(grants: &[Grant]) -> Result<(), Fault>
     ensures { (st : Store) → Told (Objected st grants.now excess_grants) 23 result }
 {

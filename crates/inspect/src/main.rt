@@ -84,7 +84,8 @@ fn show_piece(rt: &HostRuntime, style: Style, start: usize, bytes: &[u8]) -> io:
     }
 }
 
-// The founding and the blocks in turn, until the bytes are used up or no further end can be found.
+// The founding and the blocks in turn, until the bytes are used up or no further end can be found. Where a piece ends is
+// known only when it is cut off, and its place is shown.
 fn show_all(rt: &HostRuntime, style: Style, bytes: &[u8]) -> io::Result<()> {
     let mut start = 0;
     while start < bytes.len() {

@@ -30,7 +30,8 @@ fn worth(prices: &[u32; 8], v: Volume) -> u128
     v.amount as u128 * price(prices, v.sold) as u128
 }
 
-// What is sold of an asset, by its worth.
+// What is sold of an asset, by its worth. This and the next differ in their test alone; with the test as a closure
+// parameter, the bound of the sum was not proved.
 fn worth_sold(prices: &[u32; 8], volumes: &[Volume], asset: u8) -> u128
     requires { length volumes.now ≤ 56 }
     ensures { result ≡ sum_by (worth_of prices.now) (filter (λ v. v.sold == asset) volumes.now) }

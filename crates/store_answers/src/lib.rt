@@ -1,4 +1,5 @@
 // What account stores and offer books answer to the commands of a script, and two of them side by side. Assumes nothing.
+// Stores and books have functions of their own: one trait over both would need a wrapper for each.
 #![tactic(auto)]
 
 ghost use Rattle.std.specs.Prelude.{◌≡◌, ◌↔◌, IsTrue};

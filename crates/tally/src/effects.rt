@@ -83,7 +83,7 @@ impl<K: SortKey> Keyed for Net<K> {
     }
 }
 
-// What an entry of a list gives: at most two effects.
+// What an entry of a list gives: at most two effects. A trait and no closure, as `Rule` is.
 pub trait Gather<X, K> {
     ghost gives: { Self → X → List (Effect K) };
 

@@ -82,7 +82,7 @@ impl Placed for Volume {
     }
 }
 
-// A rule on entries. What it leans on, if anything, is `ready`; where that does not hold, its answers mean nothing.
+// A rule on entries: a trait and no closure, since `report` would have to require that a closure may be called. What it leans on, if anything, is `ready`; where that does not hold, its answers mean nothing.
 pub trait Rule<X> {
     ghost broken: { Self → X → Bool };
 

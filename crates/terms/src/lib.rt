@@ -96,7 +96,8 @@ pub struct Grant {
     pub balances: [u64; 8],
 }
 
-// A refusal: its number and two places, which are 0 unless the rule gives them.
+// A refusal: its number and two places, which are 0 unless the rule gives them. It is printed, compared and published by
+// its number; `Cause` names the numbers.
 #[derive(Clone, Copy, PartialEq, Eq, Debug)]
 pub struct Fault {
     pub number: u8,

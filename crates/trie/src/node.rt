@@ -324,7 +324,7 @@ pub(crate) fn remove(node: &mut Node, bits: u32, key: u128, by: u64) -> Spare
     }
 }
 
-// So many boxes.
+// So many boxes, each of which may find no memory.
 pub(crate) fn stock(heap: Global, n: usize) -> Result<Vec<Box<Node>>, AllocError>
     ensures { IfOk result (λ v. vec_len v ≡ n) }
 {

@@ -15,7 +15,7 @@ use replica::Replica;
 use std::alloc::{AllocError, Global};
 use std::fmt;
 
-// The events of the two streams, one by one.
+// The events of the two streams, one by one: two lists, since each replica takes its own.
 #[derive(Drop)]
 pub struct Twins<'a> {
     pub first: Vec<Event<'a>>,
@@ -183,6 +183,7 @@ fn add_pieces<'a, S: AccountStore, B: OfferBook>(
 ) -> Result<(), Refusal>
     ensures { OnOk result (Paired twins.old.first.items twins.old.second.items → Paired twins.new.first.items twins.new.second.items) }
 {
+    // where a piece ends is known only when it is cut off
     let mut one = first;
     let mut other = second;
     let mut place = Place { piece: 0, at: 0 };
