@@ -18,9 +18,9 @@ LINES = {
     '5a the state of a replica spelt out in a clause': r'state_of \(',
     '5b what a store or a book means through a record with its soundness': r'AccountStore\.ledger|OfferBook\.orders',
     '5c the rank of a record\'s key spelt out': r'R\.Id\.SortKey\.rank \(R\.Keyed\.key',
-    '6a arrays with a count beside them': r'\[\w+; \d+\],$|let mut (effects|nets|entries) = \[',
+    '6a arrays of fixed size in structs and parameters (which have a count beside them is said by hand)': r'\[\w+; \d+\],$|let mut (effects|nets|entries) = \[',
     '6b searches by halving': r'let mid = ',
-    '7 a switch on which step to run': r'match (by|side) \{|impl.* (Measure|Gather|Rule)<.* for ',
+    '7 switches on which step to run, and structs that stand for a step': r'match (by|side) \{|impl.* (Measure|Gather|Rule)<.* for ',
 }
 
 def sources():
