@@ -103,7 +103,7 @@ pub fn nets<'l, B: OfferBook>(
     book: &B,
     transactions: &[Transaction],
 ) -> Result<&'l [Net<Slot>], Fault>
-    ensures { MatchResult result (λ ns. (length transactions.now ≤ 1024) × Tallied slot_words (flat_map (moves (amount_at (B.book book.now).offers)) transactions.now) ns.now) (λ f. (1024 < length transactions.now) × (f ≡ fault 6 0 0)) }
+    ensures { MatchResult result (λ ns. (length transactions.now ≤ 1024) × Tallied slot_words (flat_map (moves (amount_at (B.book book.now).offers)) transactions.now) ns.now × (length ns.now ≤ 2048)) (λ f. (1024 < length transactions.now) × (f ≡ fault 6 0 0)) }
 {
     ledger.sums(&Moves { book }, transactions)
 }

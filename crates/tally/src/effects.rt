@@ -175,7 +175,7 @@ impl<K: SortKey + Default> Ledger<K> {
     // The sums of what the entries give under each key, by rising keys, whatever stood in the ledger before.
     // Of more than MAX_ITEMS entries it refuses with fault 6.
     pub fn sums<X: Copy, G: Gather<X, K>>(&mut self, from: &G, xs: &[X]) -> Result<&[Net<K>], Fault>
-        ensures { MatchResult result (λ ns. (length xs.now ≤ 1024) × Tallied K.SortKey.rank (flat_map (G.Gather.gives from.now) xs.now) ns.now × AllByRecursion Small ns.now) (λ f. (1024 < length xs.now) × (f ≡ fault_of TooManyTransactions)) }
+        ensures { MatchResult result (λ ns. (length xs.now ≤ 1024) × Tallied K.SortKey.rank (flat_map (G.Gather.gives from.now) xs.now) ns.now × AllByRecursion Small ns.now × (length ns.now ≤ 2048)) (λ f. (1024 < length xs.now) × (f ≡ fault_of TooManyTransactions)) }
     {
         if xs.len() > MAX_ITEMS {
             return Err(Cause::TooManyTransactions.into());

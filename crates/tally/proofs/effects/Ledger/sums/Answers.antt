@@ -24,4 +24,5 @@ returns g c =
       omega arith,
       subst (Tallied w _) (sym c.as_slice.ensures.value) (subst (λ es. Tallied w es c.merge.new.nets.items) (c.deref_mut.ensures.value ∙ c.collect.ensures) t),
       subst (AllByRecursion Small) (sym c.as_slice.ensures.value) c.merge.ensures.small,
+      c.as_slice.ensures.fits,
     )
