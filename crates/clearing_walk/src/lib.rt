@@ -110,6 +110,7 @@ fn walk_pair<S: AccountStore, B: OfferBook>(
         account: 0,
         sequence: 0,
     };
+    // as far as the volume goes
     while rest > 0 {
         match turn(store, book, at, rest, rates)? {
             None => {

@@ -28,7 +28,7 @@ pub enum Line {
     },
 }
 
-// Eight amounts, with a space before each.
+// Eight amounts, with a space before each, as this listing has them.
 #[derive(Clone, Copy)]
 struct Amounts([u64; 8]);
 

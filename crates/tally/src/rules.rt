@@ -82,7 +82,9 @@ impl Placed for Volume {
     }
 }
 
-// A rule on entries: a trait and no closure, since `report` would have to require that a closure may be called. What it leans on, if anything, is `ready`; where that does not hold, its answers mean nothing.
+// A rule on entries: a trait and no closure, since `report` would have to require that a closure may be called. What it
+// supposes, if anything, is `ready`, which its caller may know only as a premise of its own clause; where that does not
+// hold, the answers mean nothing.
 pub trait Rule<X> {
     ghost broken: { Self → X → Bool };
 
@@ -112,7 +114,7 @@ fn least<X: Placed, R: Rule<X>>(rule: &R, xs: &[X]) -> Option<Place>
     best
 }
 
-// No entry breaks the rule, or the fault has this number and the least place at which one does.
+// No entry breaks the rule, or the fault has this number and the least place at which one does. Any number may be given.
 pub fn report<X: Placed, R: Rule<X>>(rule: &R, number: u8, xs: &[X]) -> Result<(), Fault>
     ensures { R.Rule.ready rule.now → Told (Broken X.Placed.first X.Placed.second (R.Rule.broken rule.now) xs.now) number result }
 {

@@ -6,7 +6,7 @@ use std::io::{BufWriter, Write};
 use std::{fmt, io};
 use terms::Hex;
 
-// A reply as it is printed.
+// A reply as it is printed by this program: a Display stands with its type or its trait.
 #[derive(Clone, Copy)]
 struct Replied(Reply);
 
