@@ -1,4 +1,5 @@
-// The questions that a replica answers: about its own numbers, its store and its book. None changes anything.
+// The questions that a replica answers: about its own numbers, its store and its book. None changes anything. What is asked
+// of the store or the book also tells that it is in order and in range, since a caller sees the state alone.
 ghost use Rattle.std.specs.Prelude.{◌≡◌, [], ◌∷◌, length, map, if◌then◌else◌, true};
 ghost use Rattle.terms.specs.Order.{name, words, place, above};
 ghost use Rattle.terms.specs.Holdings.{sound_store, sound_book, standing, floor_at, balance_at, free_of, amount_at, offered_of, up_to};
@@ -70,105 +71,120 @@ impl<S: AccountStore, B: OfferBook> Replica<S, B> {
 
     // Whether an account stands.
     pub fn stands(&self, number: u32) -> bool
-        ensures { (if result then 1 else 0) ≡ standing self.now.store number }
+        ensures value { (if result then 1 else 0) ≡ standing self.now.store number }
+        ensures store { sound_store self.now.store ≡ true }
     {
         self.store.stands(number)
     }
 
     // A free balance: 0 for an absent account or an asset above 7.
     pub fn balance(&self, number: u32, asset: u8) -> u64
-        ensures { result ≡ balance_at self.now.store number asset }
+        ensures value { result ≡ balance_at self.now.store number asset }
+        ensures store { sound_store self.now.store ≡ true }
     {
         self.store.balance(number, asset)
     }
 
     // The eight free balances of an account, by rising asset: 0 for an absent account.
     pub fn balances(&self, number: u32) -> [u64; 8]
-        ensures { result ≡ map (balance_at self.now.store number) (0 ∷ 1 ∷ 2 ∷ 3 ∷ 4 ∷ 5 ∷ 6 ∷ 7 ∷ []) }
+        ensures value { result ≡ map (balance_at self.now.store number) (0 ∷ 1 ∷ 2 ∷ 3 ∷ 4 ∷ 5 ∷ 6 ∷ 7 ∷ []) }
+        ensures store { sound_store self.now.store ≡ true }
     {
         accounts::balances(&self.store, number)
     }
 
     // The highest sequence number that an account has used: 0 for an absent account.
     pub fn floor(&self, number: u32) -> u32
-        ensures { result ≡ floor_at self.now.store number }
+        ensures value { result ≡ floor_at self.now.store number }
+        ensures store { sound_store self.now.store ≡ true }
     {
         self.store.floor(number)
     }
 
     // How many accounts stand.
     pub fn accounts(&self) -> u32
-        ensures { result ≡ length self.now.store.accounts }
+        ensures value { result ≡ length self.now.store.accounts }
+        ensures store { sound_store self.now.store ≡ true }
     {
         self.store.count()
     }
 
     // How many accounts may stand.
     pub fn account_capacity(&self) -> u32
-        ensures { result ≡ self.now.store.capacity }
+        ensures value { result ≡ self.now.store.capacity }
+        ensures store { sound_store self.now.store ≡ true }
     {
         self.store.capacity()
     }
 
     // The highest number that an account may have.
     pub fn top(&self) -> u32
-        ensures { result ≡ self.now.store.top }
+        ensures value { result ≡ self.now.store.top }
+        ensures store { sound_store self.now.store ≡ true }
     {
         self.store.top()
     }
 
     // The sum of all free balances of an asset.
     pub fn free(&self, asset: u8) -> u64
-        ensures { result ≡ free_of self.now.store asset }
+        ensures value { result ≡ free_of self.now.store asset }
+        ensures store { sound_store self.now.store ≡ true }
     {
         self.store.total(asset)
     }
 
     // The lowest standing account above a number.
     pub fn next_account(&self, number: u32) -> Option<u32>
-        ensures { told (λ n. n ∷ []) result ≡ above name self.now.store.accounts (number ∷ []) }
+        ensures value { told (λ n. n ∷ []) result ≡ above name self.now.store.accounts (number ∷ []) }
+        ensures store { sound_store self.now.store ≡ true }
     {
         self.store.next(number)
     }
 
     // The amount that a key sells: 0 where it does not stand.
     pub fn amount(&self, key: Key) -> u64
-        ensures { result ≡ amount_at self.now.book.offers key }
+        ensures value { result ≡ amount_at self.now.book.offers key }
+        ensures book { sound_book self.now.book ≡ true }
     {
         self.book.amount(key)
     }
 
     // How many offers stand.
     pub fn offers(&self) -> u32
-        ensures { result ≡ length self.now.book.offers }
+        ensures value { result ≡ length self.now.book.offers }
+        ensures book { sound_book self.now.book ≡ true }
     {
         self.book.count()
     }
 
     // How many offers may stand.
     pub fn offer_capacity(&self) -> u32
-        ensures { result ≡ self.now.book.capacity }
+        ensures value { result ≡ self.now.book.capacity }
+        ensures book { sound_book self.now.book ≡ true }
     {
         self.book.capacity()
     }
 
     // The sum offered of a sold asset.
     pub fn offered(&self, sold: u8) -> u64
-        ensures { result ≡ offered_of self.now.book sold }
+        ensures value { result ≡ offered_of self.now.book sold }
+        ensures book { sound_book self.now.book ≡ true }
     {
         self.book.offered(sold)
     }
 
     // The lowest standing key above a key.
     pub fn next_offer(&self, key: Key) -> Option<Key>
-        ensures { told words result ≡ above place self.now.book.offers (words key) }
+        ensures value { told words result ≡ above place self.now.book.offers (words key) }
+        ensures book { sound_book self.now.book ≡ true }
     {
         self.book.next(key)
     }
 
     // The sum of a pair's amounts whose limit is at most the given one.
     pub fn up_to(&self, sold: u8, bought: u8, limit: u32) -> u64
-        ensures { result ≡ up_to self.now.book sold bought limit }
+        ensures value { result ≡ up_to self.now.book sold bought limit }
+        ensures book { sound_book self.now.book ≡ true }
     {
         self.book.up_to(sold, bought, limit)
     }

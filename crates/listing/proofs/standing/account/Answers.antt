@@ -7,6 +7,6 @@ pub returns : goal.returns
 returns g c = λ a has is.
     let st = c.args.replica.now.store in
     let ok = store_parts st c.requires in
-    let floor : c.floor.result ≡ a.floor = c.floor.ensures ∙ own st c.args.number a ok has is (λ b. b.floor) in
-    let balances = c.balances.ensures ∙ own_balances st c.args.number a ok has is in
+    let floor : c.floor.result ≡ a.floor = c.floor.ensures.value ∙ own st c.args.number a ok has is (λ b. b.floor) in
+    let balances = c.balances.ensures.value ∙ own_balances st c.args.number a ok has is in
     λ i. record { number = sym is i; floor = floor i; balances = balances i }

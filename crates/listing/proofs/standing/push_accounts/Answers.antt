@@ -23,7 +23,7 @@ after : (g : _) (c : goal.In_ok-push g)
 after g c =
     let st = c.args.replica.now.store in
     let ok = store_parts st c.requires in
-    rest_next name st.accounts _ _ ok.up (some _) (sym c.in-Some.ensures)
+    rest_next name st.accounts _ _ ok.up (some _) (sym c.in-Some.ensures.value)
 
 pub loop-number-smaller : goal.loop-number-smaller
 loop-number-smaller g c = fewer name line.Account _ _ _ (after g c)
@@ -41,5 +41,5 @@ pub returns : goal.returns
 returns g c =
     let st = c.args.replica.now.store in
     let ok = store_parts st c.requires in
-    let none = rest_end name st.accounts (c.loop-number.at ∷ []) (All-weaker _ _ (λ a _. some a.number) st.accounts ok.fit) (sym c.in_default.ensures) in
+    let none = rest_end name st.accounts (c.loop-number.at ∷ []) (All-weaker _ _ (λ a _. some a.number) st.accounts ok.fit) (sym c.in_default.ensures.value) in
     ended name line.Account st.accounts (c.loop-number.at ∷ []) _ _ none c.loop-number.invariant

@@ -36,7 +36,7 @@ after : (g : _) (c : goal.In_ok-push g)
 after g c =
     let bk = c.args.replica.now.book in
     let ok = book_parts bk c.requires in
-    rest_next place bk.offers _ _ ok.up (some _ 5 refl (omega arith)) (sym c.in-Some.ensures)
+    rest_next place bk.offers _ _ ok.up (some _ 5 refl (omega arith)) (sym c.in-Some.ensures.value)
 
 pub loop-key-smaller : goal.loop-key-smaller
 loop-key-smaller g c = fewer place line.Offer _ _ _ (after g c)
@@ -49,7 +49,7 @@ loop-key-preserved g c =
     let o = n.entry in
     let key : c.in-Some.key ≡ o.key = sym (key_is o.key c.in-Some.key n.is) in
     let amount : c.amount-amount.result ≡ o.amount =
-    c.amount-amount.ensures ∙ ap (under place (λ p. p.amount) bk.offers) (sym n.is) ∙ all-has _ bk.offers o (under_each place (λ p. p.amount) bk.offers ok.up) n.has in
+    c.amount-amount.ensures.value ∙ ap (under place (λ p. p.amount) bk.offers) (sym n.is) ∙ all-has _ bk.offers o (under_each place (λ p. p.amount) bk.offers ok.up) n.has in
     let is : record { key = c.in-Some.key; amount = c.amount-amount.result } ≡ o = λ i. record { key = key i; amount = amount i } in
     let items = c.in_ok-push.ensures.items ∙ ap (λ p. vec_items c.loop-key.lines ++ line.Offer p ∷ []) is in
     moved place line.Offer bk.offers (words c.loop-key.at) (words c.in-Some.key) _ _ _ n items c.loop-key.invariant
@@ -57,5 +57,5 @@ loop-key-preserved g c =
 pub returns : goal.returns
 returns g c =
     let bk = c.args.replica.now.book in
-    let none = rest_end place bk.offers (words c.loop-key.at) (All-weaker _ _ (λ o _. some _ 5 refl (omega arith)) bk.offers (book_parts bk c.requires).fit) (sym c.in_default.ensures) in
+    let none = rest_end place bk.offers (words c.loop-key.at) (All-weaker _ _ (λ o _. some _ 5 refl (omega arith)) bk.offers (book_parts bk c.requires).fit) (sym c.in_default.ensures.value) in
     ended place line.Offer bk.offers (words c.loop-key.at) _ _ none c.loop-key.invariant
