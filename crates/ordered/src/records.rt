@@ -2,7 +2,6 @@
 // their key and name the amount that they sell, grants name their balances. Assumes nothing.
 ghost use Rattle.std.specs.Prelude.{◌≡◌, List, [], ◌∷◌, if◌then◌else◌, nat_eq, slice_index};
 ghost use Rattle.terms.specs.Order.{words};
-ghost use Rattle.ordered.specs.Orders.{in_turn_is};
 
 use crate::sums::Amounts;
 use crate::table::{Keyed, SortKey};
@@ -12,7 +11,9 @@ use terms::{Account, Grant, Key, Offer};
 impl SortKey for u32 {
     ghost rank = { λ n. n ∷ [] };
 
-    ghost follows = { λ m n. in_turn_is (m ∷ []) (n ∷ []) };
+    fn precedes(self, other: u32) -> bool {
+        self < other
+    }
 }
 
 // A number on its own is a record too, whose key it is.
@@ -64,7 +65,9 @@ impl Amounts<u8> for Grant {
 impl SortKey for Key {
     ghost rank = { words };
 
-    ghost follows = { λ j k. in_turn_is (words j) (words k) };
+    fn precedes(self, key: Key) -> bool {
+        self < key
+    }
 }
 
 impl Keyed for Offer {

@@ -3,7 +3,6 @@
 // Assumes nothing.
 ghost use Rattle.std.specs.Prelude.{◌≡◌, ℕ, ◌+◌, ◌-◌, ◌<◌, ◌≤◌, min, ◌&&◌, List, [], length, take, if◌then◌else◌, sum_by, MatchResult, nat_le, nat_lt, slice_get, slice_set};
 ghost use Rattle.std.specs.List.{insert, remove};
-ghost use Rattle.std.specs.Ordering.{is_lt};
 ghost use Rattle.terms.specs.Order.{lower, Rising, above};
 ghost use Rattle.ordered.specs.Places.{Cut, Past, Sought, told};
 
@@ -11,11 +10,11 @@ use crate::sums::{Amounts, total};
 use std::marker::Model;
 
 // A key, by the numbers that it is compared by, in turn.
-pub trait SortKey: Copy + Ord {
+pub trait SortKey: Copy {
     ghost rank: { Self → List ℕ };
 
-    // One key is below another where its numbers are.
-    ghost follows: { (a b : Self) → is_lt (Self.cmp a b) ≡ lower (rank a) (rank b) };
+    fn precedes(self, other: Self) -> bool
+        ensures { result ≡ lower (rank self) (rank other) };
 }
 
 // A record that names its key.
@@ -39,7 +38,7 @@ fn lower_bound<R: Keyed>(records: &[R], key: R::Id) -> usize
     let mut high = records.len();
     while low < high {
         let mid = low + (high - low) / 2;
-        if records[mid].key() < key {
+        if records[mid].key().precedes(key) {
             low = mid + 1;
         } else {
             high = mid;
@@ -54,7 +53,7 @@ fn upper_bound<R: Keyed>(records: &[R], key: R::Id) -> usize
 {
     let i = lower_bound(records, key);
     match records.get(i) {
-        Some(x) if x.key() <= key => i + 1,
+        Some(x) if !key.precedes(x.key()) => i + 1,
         _ => i,
     }
 }
@@ -66,7 +65,7 @@ pub fn search<R: Keyed>(records: &[R], key: R::Id) -> Result<usize, usize>
 {
     let i = lower_bound(records, key);
     match records.get(i) {
-        Some(x) if x.key() <= key => Ok(i),
+        Some(x) if !key.precedes(x.key()) => Ok(i),
         _ => Err(i),
     }
 }
