@@ -8,7 +8,6 @@ ghost use Rattle.std.specs.List.{flat_map};
 ghost use Rattle.terms.specs.Holdings.{balance_at, amount_at};
 ghost use Rattle.exchange.specs.Faults.{fault};
 ghost use Rattle.exchange.specs.Faults.Cause.{overdrawn};
-ghost use Rattle.ordered.specs.Orders.{in_turn_is};
 ghost use Rattle.tally.specs.Tally.{Tallied};
 ghost use Rattle.judging_rules.specs.Rows.{Row, scene, bundle};
 ghost use Rattle.judging_balances.specs.Moves.{moves, slot_words};
@@ -29,7 +28,9 @@ pub struct Slot {
 impl SortKey for Slot {
     ghost rank = { slot_words };
 
-    ghost follows = { λ a b. in_turn_is (slot_words a) (slot_words b) };
+    fn precedes(self, other: Slot) -> bool {
+        self < other
+    }
 }
 
 impl Placed for Slot {

@@ -2,4 +2,5 @@ pub mod Places
 pub mod Merge
 pub mod Finds
 pub mod Nets
+pub mod Orders
 pub mod Tells

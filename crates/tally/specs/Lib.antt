@@ -1,2 +1,4 @@
 pub mod Least
+pub mod Order
 pub mod Tally
+pub mod Total

@@ -4,16 +4,22 @@ ghost use Rattle.std.specs.Prelude.{◌≡◌, ℕ, ◌+◌, ◌*◌, ◌^◌, �
 ghost use Rattle.std.specs.Option.{option_to_list};
 ghost use Rattle.std.specs.List.{flat_map, AllByRecursion};
 ghost use Rattle.std.specs.List.Sorted.{IsSortedWithin};
+ghost use Rattle.std.specs.Ordering.{on, eq_by_cmp, as_partial_cmp};
+ghost use Rattle.std.specs.Cmp.{partial_equiv_from_equiv, eq_by_cmp_equiv, on_total, partial_order_from_total};
+ghost use Rattle.std.proofs.Common.{refl};
 ghost use Rattle.arrayvec.specs.ArrayVec.{array_vec_len};
 ghost use Rattle.terms.specs.Order.{lower, Rising, under};
 ghost use Rattle.terms.specs.Causes.{fault_of};
 ghost use Rattle.terms.specs.declared.causes.Cause.TheVariants.{TooManyTransactions};
+ghost use Rattle.tally.specs.Order.{order};
+ghost use Rattle.tally.specs.Total.{order_total};
 ghost use Rattle.tally.specs.Tally.{added, Tallied, Small};
 ghost use Rattle.tally.specs.declared.effects.Effect.{Effect};
 
 use crate::rules::{Place, Placed};
 use arrayvec::ArrayVec;
 use ordered::{Keyed, SortKey, search};
+use std::cmp::Ordering;
 use terms::{Cause, Fault};
 
 // As many entries as are gathered, and the effects that they may have: two each.
@@ -91,6 +97,57 @@ pub trait Gather<X, K> {
         ensures { option_to_list result.0 ++ option_to_list result.1 ≡ gives self.now x };
 }
 
+fn compare<K: SortKey>(a: K, b: K) -> Ordering
+    ensures { result ≡ order (K.SortKey.rank a) (K.SortKey.rank b) }
+{
+    if a.precedes(b) {
+        Ordering::Less
+    } else if b.precedes(a) {
+        Ordering::Greater
+    } else {
+        Ordering::Equal
+    }
+}
+
+// Effects go by their keys.
+impl<K: SortKey> PartialEq for Effect<K> {
+    ghost eq = { eq_by_cmp (on (λ e. K.SortKey.rank e.key) order) };
+
+    ghost laws = { partial_equiv_from_equiv (eq_by_cmp_equiv (on_total (λ e. K.SortKey.rank e.key) order_total)) };
+
+    fn eq(&self, other: &Effect<K>) -> bool {
+        compare(self.key, other.key).is_eq()
+    }
+}
+
+impl<K: SortKey> Eq for Effect<K> {
+    ghost laws = { eq_by_cmp_equiv (on_total (λ e. K.SortKey.rank e.key) order_total) };
+}
+
+impl<K: SortKey> PartialOrd for Effect<K> {
+    ghost partial_cmp = { as_partial_cmp (on (λ e. K.SortKey.rank e.key) order) };
+
+    ghost laws = { partial_order_from_total (on_total (λ e. K.SortKey.rank e.key) order_total) };
+
+    fn partial_cmp(&self, other: &Effect<K>) -> Option<Ordering> {
+        Some(compare(self.key, other.key))
+    }
+}
+
+impl<K: SortKey> Ord for Effect<K> {
+    ghost cmp = { on (λ e. K.SortKey.rank e.key) order };
+
+    ghost total = { on_total (λ e. K.SortKey.rank e.key) order_total };
+
+    ghost matches_partial_cmp = { λ _ _. refl };
+
+    ghost matches_eq = { λ _ _. refl };
+
+    fn cmp(&self, other: &Effect<K>) -> Ordering {
+        compare(self.key, other.key)
+    }
+}
+
 // Writes the effects of an entry after those that are there.
 fn push<K: SortKey>(effects: &mut ArrayVec<Effect<K>, MAX_EFFECTS>, e: Option<Effect<K>>)
     requires { array_vec_len effects.old < 2048 }
@@ -127,15 +184,16 @@ fn add<K: SortKey>(nets: &mut ArrayVec<Net<K>, MAX_EFFECTS>, e: Effect<K>)
     ensures most { array_vec_len nets.new ≤ array_vec_len nets.old + 1 }
     ensures fits { (e.plus < 2 ^ 64) × (e.minus < 2 ^ 64) }
 {
+    let key = e.key;
     if let Some(last) = nets.last_mut()
-        && last.key >= e.key
+        && !last.key.precedes(key)
     {
         last.plus += e.plus as u128;
         last.minus += e.minus as u128;
         return;
     }
     nets.push(Net {
-        key: e.key,
+        key,
         plus: e.plus as u128,
         minus: e.minus as u128,
     });
@@ -183,7 +241,7 @@ impl<K: SortKey + Default> Ledger<K> {
         self.effects.clear();
         self.nets.clear();
         collect(from, xs, &mut self.effects);
-        self.effects.sort_unstable_by_key(|e| e.key);
+        self.effects.sort_unstable();
         merge(&self.effects, &mut self.nets);
         Ok(self.nets.as_slice())
     }

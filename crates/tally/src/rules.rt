@@ -1,6 +1,5 @@
 // Rules that an entry of a list may break, and the least place at which one is broken. Assumes nothing.
 ghost use Rattle.std.specs.Prelude.{◌≡◌, ℕ, Bool};
-ghost use Rattle.ordered.specs.Orders.{in_turn_is};
 ghost use Rattle.tally.specs.Least.{Broken, Told, spot, lesser_of, LeastPlace};
 
 use ordered::SortKey;
@@ -17,7 +16,9 @@ pub struct Place {
 impl SortKey for Place {
     ghost rank = { spot };
 
-    ghost follows = { λ p q. in_turn_is (spot p) (spot q) };
+    fn precedes(self, other: Place) -> bool {
+        self < other
+    }
 }
 
 // What has a place.
