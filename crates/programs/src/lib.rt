@@ -2,9 +2,10 @@
 // of the words and the files.
 #![tactic(auto)]
 
-ghost use Rattle.std.specs.Prelude.{◌≡◌, IfErr, MatchResult};
+ghost use Rattle.std.specs.Prelude.{◌≡◌, ◌⊎◌, IfErr, MatchResult};
 ghost use Rattle.std.specs.declared.io.Error.{Error};
 ghost use Rattle.std.specs.Process.{exit_status};
+ghost use Rattle.programs.specs.declared.Failure.TheVariants.{NoMemory};
 
 use std::alloc::AllocError;
 use std::error::Error;
@@ -28,6 +29,8 @@ pub enum Failure<'a> {
 }
 
 impl<'a> From<AllocError> for Failure<'a> {
+    ghost from_gives = { λ _ failure. failure ≡ NoMemory };
+
     fn from(_: AllocError) -> Self {
         Failure::NoMemory
     }
@@ -50,7 +53,9 @@ impl<'a> fmt::Display for Failure<'a> {
 impl<'a> Error for Failure<'a> {}
 
 // The words after the program's name.
-pub fn words(rt: &(impl Env + AllocGlobal)) -> Result<Vec<String>, Failure<'static>> {
+pub fn words(rt: &(impl Env + AllocGlobal)) -> Result<Vec<String>, Failure<'static>>
+    ensures { IfErr result (λ failure. (failure ≡ Failure.NoMemory) ⊎ ((error : Error) × (failure ≡ Failure.Arguments error))) }
+{
     match env::args(rt) {
         Ok(words) => Ok(words.skip(1).collect(rt.alloc())?),
         Err(error) => Err(Failure::Arguments(error)),
