@@ -5,8 +5,10 @@
 mod answer;
 mod ask;
 mod lines;
+mod operands;
 mod words;
 
 pub use answer::Answer;
 pub use ask::{AccountAsk, Ask, OfferAsk};
 pub use lines::{Command, Line, Sizes, Usage, parse};
+pub use operands::Operands;

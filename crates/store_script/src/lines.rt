@@ -1,26 +1,22 @@
 // Lines to commands. Assumes nothing of a line.
-ghost use Rattle.std.specs.Prelude.{◌≡◌, ◌+◌, Ok, IfSome, OnSome};
+ghost use Rattle.std.specs.Prelude.{◌≡◌, ◌+◌, min, take, Ok, IfSome, OnSome};
 ghost use Rattle.terms.specs.Order.{words};
-ghost use Rattle.arrayvec.specs.ArrayVec.{array_vec_len};
 
 use crate::ask::{AccountAsk, Ask, OfferAsk};
+use crate::operands::Operands;
 use crate::words::{AccountVerb, NO_WORD, OfferVerb, Verb, find};
-use arrayvec::ArrayVec;
 use std::fmt;
 use std::str::SplitAsciiWhitespace;
 use terms::Key;
-
-// As many operands as a command may have.
-const MOST: usize = 11;
 
 // As many slots as a store may be made with here.
 const MOST_SLOTS: usize = 100_000;
 
 // A command as it is written and as what it asks.
-#[derive(Drop)]
+#[derive(Clone, Copy)]
 pub struct Command<'a> {
     pub word: &'a str,
-    pub operands: ArrayVec<u64, MOST>,
+    pub operands: Operands,
     pub ask: Ask,
 }
 
@@ -58,23 +54,23 @@ pub fn parse<'a>(line: &'a str) -> Result<Line<'a>, Usage> {
 }
 
 // The words as numbers; none where one is no number of 64 bits, or where there are more than a command may have.
-fn read_operands(words: SplitAsciiWhitespace) -> Option<ArrayVec<u64, MOST>> {
-    let mut operands = ArrayVec::new();
+fn read_operands(words: SplitAsciiWhitespace) -> Option<Operands> {
+    let mut operands = Operands::default();
     for word in words {
         add_operand(&mut operands, word)?;
     }
     Some(operands)
 }
 
-fn add_operand(operands: &mut ArrayVec<u64, MOST>, word: &str) -> Option<()>
-    ensures { OnSome result (array_vec_len operands.new ≡ array_vec_len operands.old + 1) }
+fn add_operand(operands: &mut Operands, word: &str) -> Option<()>
+    ensures { OnSome result (operands.new.count ≡ operands.old.count + 1) }
 {
     let number = word.parse::<u64>().ok()?;
-    operands.try_push(number).ok()
+    operands.push(number)
 }
 
 // What a verb and its operands say; none where it does not take such operands.
-fn line_of<'a>(word: &'a str, verb: Verb, operands: ArrayVec<u64, MOST>) -> Option<Line<'a>> {
+fn line_of<'a>(word: &'a str, verb: Verb, operands: Operands) -> Option<Line<'a>> {
     let numbers = operands.as_slice();
     let ask = match verb {
         Verb::Fresh => return fresh(numbers),
@@ -214,7 +210,7 @@ impl fmt::Display for Usage {
 impl Command<'_> {
     // The numbers after its word.
     pub fn numbers(&self) -> &[u64]
-        ensures { result.now ≡ self.now.operands.items }
+        ensures { result.now ≡ take (min self.now.operands.count 11) self.now.operands.numbers }
     {
         self.operands.as_slice()
     }
