@@ -12,13 +12,17 @@ use makes::Makes;
 use ordered_book::OrderedBook;
 use sorted_store::SortedStore;
 use std::io::Read;
-use store_script::{Line, Sizes, Usage, parse};
+use std::iter::{Peekable, Zip};
+use std::ops::RangeFrom;
+use std::str::Lines;
+use store_script::{Line, Sizes, parse};
 use tally::Tally;
 use terms::{Account, Offer};
 use trie_book::TrieBook;
 
-// The lines of a script with their numbers: what each says, or what to write in its place.
-type Numbered<'a> = (usize, Result<Line<'a>, Usage>);
+// The lines of a script that are still to run, with their numbers. None is kept, and each is read when its turn comes, so a
+// script needs no more memory than its text.
+type Numbered<'a> = Peekable<Zip<RangeFrom<usize>, Lines<'a>>>;
 
 // The sizes at the start.
 const USUAL: Sizes = Sizes {
@@ -26,10 +30,11 @@ const USUAL: Sizes = Sizes {
     top: 4_294_967_295,
 };
 
-// Runs lines against empty stores and books of these sizes, and gives the sizes for the lines that follow.
+// Runs lines up to the next that starts again, against empty stores and books of these sizes, and gives the sizes for the
+// lines that follow.
 fn run_part(
     rt: &HostRuntime,
-    lines: &[Numbered<'_>],
+    lines: &mut Numbered<'_>,
     sizes: Sizes,
     tally: &mut Tally,
 ) -> anyhow::Result<Sizes> {
@@ -45,19 +50,18 @@ fn run_part(
         ordered: OrderedBook::new(slots.as_mut_slice()),
         trie: TrieBook::new(heap, n.saturating_mul(2).saturating_sub(1))?,
     };
-    let mut next = sizes;
     for (number, line) in lines {
-        match line {
+        match parse(line) {
             Ok(Line::Blank) => {}
-            Ok(Line::Fresh(sizes)) => {
-                println!(rt; "fresh {sizes}")?;
-                next = *sizes;
+            Ok(Line::Fresh(next)) => {
+                println!(rt; "fresh {next}")?;
+                return Ok(next);
             }
-            Ok(Line::Command(command)) => tally.add(makes.step(rt, command)?),
+            Ok(Line::Command(command)) => tally.add(makes.step(rt, &command)?),
             Err(usage) => println!(rt; "line {number}: {usage}")?,
         }
     }
-    Ok(next)
+    Ok(sizes)
 }
 
 fn run(rt: &HostRuntime) -> anyhow::Result<()> {
@@ -65,12 +69,15 @@ fn run(rt: &HostRuntime) -> anyhow::Result<()> {
     let mut input = Vec::new(heap);
     rt.stdin().read_to_end(&mut input)?;
     let text = String::from_utf8_lossy(heap, input.as_slice())?;
-    let lines: Vec<Numbered<'_>> = (1..).zip(text.as_str().lines().map(parse)).collect(heap)?;
+    let mut lines = (1..).zip(text.as_str().lines()).peekable();
     let mut tally = Tally::default();
     let mut sizes = USUAL;
-    // a line that starts again is the last of its part
-    for part in lines.split_inclusive(|(_, line)| matches!(line, Ok(Line::Fresh(_)))) {
-        sizes = run_part(rt, part, sizes, &mut tally)?;
+    // each part takes one line at least, so that there are no more parts than lines
+    for _ in text.as_str().lines() {
+        if lines.peek().is_none() {
+            break;
+        }
+        sizes = run_part(rt, &mut lines, sizes, &mut tally)?;
     }
     rt.println(tally)?;
     Ok(())
