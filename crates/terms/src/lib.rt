@@ -76,6 +76,11 @@ pub enum Action {
 
 // Nothing in particular: memory for actions is filled with it.
 impl Default for Action {
+    ghost use Rattle.std.specs.Prelude.{◌≡◌};
+    ghost use Rattle.terms.specs.declared.Action.TheVariants.{Create};
+
+    ghost is_default = { λ a. a ≡ Create 0 };
+
     fn default() -> Action {
         Action::Create { account: 0 }
     }
