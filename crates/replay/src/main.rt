@@ -68,9 +68,10 @@ fn replay_file<'a>(rt: &HostRuntime, arguments: Arguments<'a>) -> Result<(), NoL
         "a file that you may read, with a founding and blocks",
     )?;
     let Listing { lines, counts } = replay(rt.alloc(), settings, bytes.as_slice())?;
-    write_lines(rt.alloc(), rt.stdout(), lines.as_slice())?;
-    write_lines(rt.alloc(), rt.stdout(), &[counts])?;
-    Ok(())
+    // the counts follow also where not every line was taken, as by an output that takes nothing for a while
+    let listed = write_lines(rt.alloc(), rt.stdout(), lines.as_slice());
+    let counted = write_lines(rt.alloc(), rt.stdout(), &[counts]);
+    Ok(listed.and(counted)?)
 }
 
 fn run<'a>(rt: &HostRuntime, words: &'a [String]) -> Result<ExitCode, NoListing<'a>> {
