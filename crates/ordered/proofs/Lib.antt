@@ -1,4 +1,3 @@
 pub mod Rising
 pub mod Cuts
 pub mod Shift
-pub mod Keys

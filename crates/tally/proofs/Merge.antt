@@ -14,11 +14,6 @@ use Rattle.tally.specs.declared.effects.Effect.{Effect}
 use Rattle.tally.specs.declared.effects.Net.{Net}
 use Rattle.tally.specs.Tally.{net_of, with_more, added, Tallied, Small, Ahead}
 
--- a list of the same length, written through a loan
-pub lent_back : {X : Type 0} (to ys : List X) → length ys ≡ length to → refill (length to) to ys ≡ ys
-lent_back to ys n =
-    ap (λ zs. take (length to) (ys ++ zs)) (drop_all (length ys) to (omega arith)) ∙ ap (take (length to)) (append-nil ys) ∙ take_all (length to) ys (omega arith)
-
 module _ {K : Type 0} (w : K → List ℕ) where
   abbrev wn : Net K → List ℕ
   wn x = w x.key
@@ -63,24 +58,6 @@ module _ {K : Type 0} (w : K → List ℕ) where
       ∙ sym (cond-true (lower (wn x) (we e)) ((take (length to - 1) to ++ x ∷ []) ++ net_of e ∷ []) (take (length to - 1) to ++ with_more x e ∷ []) low)
       ∙ sym (added_last (take (length to - 1) to) x e)
       ∙ ap (λ xs. added w xs e) (sym b)
-
-  -- what is written through a loan of the entries
-
-  pub lent_merged : (to lent : List (Net K)) (x : Net K) (e : Effect K) → lent ≡ to → 0 < length to → x ≡ get_or to (length to - 1) x
-      → lower (wn x) (we e) ≡ false → refill (length to) to (set lent (length lent - 1) (with_more x e)) ≡ added w to e
-  lent_merged to lent x e l p is low =
-      subst (λ z. refill (length to) to (set z (length z - 1) (with_more x e)) ≡ added w to e) (sym l)
-      (lent_back to (set to (length to - 1) (with_more x e)) (simp length-set) ∙ put_merged to x e p is low)
-
-  pub lent_none : (to lent : List (Net K)) (e : Effect K) → lent ≡ to → length to ≡ 0 → refill (length to) to lent ++ net_of e ∷ [] ≡ added w to e
-  lent_none to lent e l z = ap (λ xs. xs ++ net_of e ∷ []) (lent_back to lent (ap length l) ∙ l) ∙ put_first to e z
-
-  pub lent_new : (to lent : List (Net K)) (x : Net K) (e : Effect K) → lent ≡ to → 0 < length to → x ≡ get_or to (length to - 1) x
-      → lower (wn x) (we e) ≡ true → refill (length to) to (set lent (length lent - 1) x) ++ net_of e ∷ [] ≡ added w to e
-  lent_new to lent x e l p is low =
-      let same : set to (length to - 1) x ≡ to = ap (set to (length to - 1)) is ∙ set-get_or to (length to - 1) x in
-      subst (λ z. refill (length to) to (set z (length z - 1) x) ++ net_of e ∷ [] ≡ added w to e) (sym l)
-      (ap (λ xs. xs ++ net_of e ∷ []) (lent_back to (set to (length to - 1) x) (simp length-set) ∙ same) ∙ put_new to x e p is low)
 
   -- what holds of each entry
   pub all_added : (P Q : Net K → Type 0) (ns : List (Net K)) (e : Effect K) → AllByRecursion P ns

@@ -16,8 +16,8 @@ ghost use Rattle.tally.specs.Total.{order_total};
 ghost use Rattle.tally.specs.Tally.{added, Tallied, Small};
 ghost use Rattle.tally.specs.declared.effects.Effect.{Effect};
 
+use crate::memory::Memory;
 use crate::rules::{Place, Placed};
-use arrayvec::ArrayVec;
 use ordered::{Keyed, SortKey, search};
 use std::cmp::Ordering;
 use terms::{Cause, Fault};
@@ -149,7 +149,7 @@ impl<K: SortKey> Ord for Effect<K> {
 }
 
 // Writes the effects of an entry after those that are there.
-fn push<K: SortKey>(effects: &mut ArrayVec<Effect<K>, MAX_EFFECTS>, e: Option<Effect<K>>)
+fn push<K: SortKey>(effects: &mut Memory<Effect<K>>, e: Option<Effect<K>>)
     requires { array_vec_len effects.old < 2048 }
     ensures items { effects.new.items ≡ effects.old.items ++ option_to_list e }
     ensures most { array_vec_len effects.new ≤ array_vec_len effects.old + 1 }
@@ -163,7 +163,7 @@ fn push<K: SortKey>(effects: &mut ArrayVec<Effect<K>, MAX_EFFECTS>, e: Option<Ef
 fn collect<X: Copy, K: SortKey, G: Gather<X, K>>(
     from: &G,
     xs: &[X],
-    effects: &mut ArrayVec<Effect<K>, MAX_EFFECTS>,
+    effects: &mut Memory<Effect<K>>,
 )
     requires few { length xs.now ≤ 1024 }
     requires none { effects.old.items ≡ [] }
@@ -177,7 +177,7 @@ fn collect<X: Copy, K: SortKey, G: Gather<X, K>>(
 }
 
 // One effect more, which is not below the last net.
-fn add<K: SortKey>(nets: &mut ArrayVec<Net<K>, MAX_EFFECTS>, e: Effect<K>)
+fn add<K: SortKey>(nets: &mut Memory<Net<K>>, e: Effect<K>)
     requires room { array_vec_len nets.old < 2048 }
     requires small { AllByRecursion Small nets.old.items }
     ensures nets { nets.new.items ≡ added K.SortKey.rank nets.old.items e }
@@ -185,11 +185,14 @@ fn add<K: SortKey>(nets: &mut ArrayVec<Net<K>, MAX_EFFECTS>, e: Effect<K>)
     ensures fits { (e.plus < 2 ^ 64) × (e.minus < 2 ^ 64) }
 {
     let key = e.key;
-    if let Some(last) = nets.last_mut()
+    if let Some(last) = nets.last()
         && !last.key.precedes(key)
     {
-        last.plus += e.plus as u128;
-        last.minus += e.minus as u128;
+        nets.set_last(Net {
+            key: last.key,
+            plus: last.plus + e.plus as u128,
+            minus: last.minus + e.minus as u128,
+        });
         return;
     }
     nets.push(Net {
@@ -200,7 +203,7 @@ fn add<K: SortKey>(nets: &mut ArrayVec<Net<K>, MAX_EFFECTS>, e: Effect<K>)
 }
 
 // Adds up sorted effects.
-fn merge<K: SortKey>(effects: &[Effect<K>], nets: &mut ArrayVec<Net<K>, MAX_EFFECTS>)
+fn merge<K: SortKey>(effects: &[Effect<K>], nets: &mut Memory<Net<K>>)
     requires room { length effects.now ≤ 2048 }
     requires none { nets.old.items ≡ [] }
     requires sorted { IsSortedWithin (λ x y. lower (K.SortKey.rank x.key) (K.SortKey.rank y.key)) effects.now 0 (length effects.now) }
@@ -215,8 +218,8 @@ fn merge<K: SortKey>(effects: &[Effect<K>], nets: &mut ArrayVec<Net<K>, MAX_EFFE
 // Memory to add up in, for as many entries as are gathered at most.
 #[derive(Drop)]
 pub struct Ledger<K> {
-    effects: ArrayVec<Effect<K>, MAX_EFFECTS>,
-    nets: ArrayVec<Net<K>, MAX_EFFECTS>,
+    effects: Memory<Effect<K>>,
+    nets: Memory<Net<K>>,
 }
 
 impl<K: SortKey + Default> Ledger<K> {
@@ -224,9 +227,22 @@ impl<K: SortKey + Default> Ledger<K> {
     pub fn new() -> Self
         ensures { (result.effects.items ≡ []) × (result.nets.items ≡ []) }
     {
+        Ledger::filled(K::default())
+    }
+}
+
+impl<K: SortKey> Ledger<K> {
+    // The same for keys that have no default: any key does, since nothing stands under it.
+    pub fn filled(key: K) -> Self
+        ensures { (result.effects.items ≡ []) × (result.nets.items ≡ []) }
+    {
         Ledger {
-            effects: ArrayVec::new(),
-            nets: ArrayVec::new(),
+            effects: Memory::filled(Effect::comes(key, 0)),
+            nets: Memory::filled(Net {
+                key,
+                plus: 0,
+                minus: 0,
+            }),
         }
     }
 
@@ -242,7 +258,7 @@ impl<K: SortKey + Default> Ledger<K> {
         self.nets.clear();
         collect(from, xs, &mut self.effects);
         self.effects.sort_unstable();
-        merge(&self.effects, &mut self.nets);
+        merge(self.effects.as_slice(), &mut self.nets);
         Ok(self.nets.as_slice())
     }
 }

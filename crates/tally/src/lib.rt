@@ -3,6 +3,7 @@
 #![tactic(auto)]
 
 pub mod effects;
+mod memory;
 pub mod rules;
 
 pub use effects::{Effect, Gather, Ledger, MAX_EFFECTS, MAX_ITEMS, Net, look_up};
