@@ -86,11 +86,11 @@ impl<'a> AccountStore for SortedStore<'a> {
         let Err(i) = self.table.search(number) else {
             return Err(Cause::StandsAlready.into());
         };
-        if self.table.insert(i, new_account(number)) {
-            Ok(())
-        } else {
-            Err(Cause::NoRoom.into())
+        if self.table.len() >= self.table.capacity() {
+            return Err(Cause::NoRoom.into());
         }
+        self.table.insert(i, new_account(number));
+        Ok(())
     }
 
     fn set_balance(&mut self, number: u32, asset: u8, value: u64) -> Result<(), Fault> {
