@@ -10,9 +10,17 @@ use Rattle.tally.proofs.effects.Ledger.sums.Goals as goal
 pub merge-requires : goal.merge-requires
 merge-requires g c =
     let w = g.K.SortKey.rank in
-    let sorted = c.sort_unstable.new.self.items in
-    (search rules, (c.as_slice.ensures.fits, (search rules, subst (λ es. IsSortedWithin (λ x y. lower (w x.key) (w y.key)) es 0 (length es)) (sym c.as_slice.ensures.value)
-    (ascends_words (λ e. w e.key) sorted (length sorted) c.sort_unstable.ensures.sorted))))
+    let sorted = c.sort_unstable.new.self.items in (
+      search rules,
+      (
+        c.as_slice.ensures.fits,
+        (
+          search rules,
+          subst (λ es. IsSortedWithin (λ x y. lower (w x.key) (w y.key)) es 0 (length es)) (sym c.as_slice.ensures.value)
+              (ascends_words (λ e. w e.key) sorted (length sorted) c.sort_unstable.ensures.sorted),
+        ),
+      ),
+    )
 
 pub returns : goal.returns
 returns g c =
