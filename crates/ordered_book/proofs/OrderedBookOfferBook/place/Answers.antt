@@ -1,4 +1,4 @@
-use Rattle.std.proofs.Common.{◌<◌, ◌≤◌, length, Err, sym, ap, ◌∙◌, arith}
+use Rattle.std.proofs.Common.{◌<◌, ◌≤◌, length, Err, sym, ap, ◌∙◌, rules, arith}
 use Rattle.std.proofs.lemmas.Bool.{cond-true, and_from, lt-ltb, le-leb}
 use Rattle.std.proofs.lemmas.Bool.Decides.{nat_tests}
 use Rattle.offers.proofs.Replies.{place_stands, place_full, place_out, place_made}
@@ -16,8 +16,8 @@ pub returns-then-is_full-clause-answer : goal.returns-then-is_full-clause-answer
 returns-then-is_full-clause-answer c =
     let s = c.args.self.now in
     let full : s.table.capacity ≤ length s.table.records = grind (arith, nat_tests, c.is_full.ensures, c.if-is_full.true) in
-    ap Err c.into-then-is_full.ensures
-    ∙ place_full (book_of s.table) c.args.key c.args.units (amount_none s.table s.sound c.args.key _ (c.in-Err.ensures (ok s.table s.sound).up)) full
+    let told = place_full (book_of s.table) c.args.key c.args.units (amount_none s.table s.sound c.args.key _ (c.in-Err.ensures (ok s.table s.sound).up)) full in
+    search (rules, told)
 
 pub returns-then-not-in_range-clause-answer : goal.returns-then-not-in_range-clause-answer
 returns-then-not-in_range-clause-answer c =
