@@ -1,5 +1,5 @@
 -- The parts of a hashed store agree: at birth, and after an opening and a write. Assumes nothing.
-use Rattle.std.proofs.Common.{◌≡◌, ℕ, zero, suc, ◌<◌, ◌≤◌, true, false, cond, ◌&&◌, eqb, ltb, leb, List, [], ◌∷◌, map, length, get_or, take, set, replicate, sum_by, sym, refl, ap, ◌∙◌, subst, arith}
+use Rattle.std.proofs.Common.{◌≡◌, ℕ, zero, suc, ◌<◌, ◌≤◌, true, false, cond, ◌&&◌, eqb, ltb, leb, List, [], ◌∷◌, map, length, get_or, take, drop, set, replicate, sum_by, sym, refl, ap, ◌∙◌, subst, arith}
 use Rattle.std.specs.List.{insert, AllByRecursion}
 use Rattle.std.proofs.lemmas.List.{length-set}
 use Rattle.std.proofs.lemmas.List.Edits.{length-insert}
@@ -38,8 +38,8 @@ module _ (top : ℕ) (slots : List Account) (buckets : List Entry) (order : Rows
       (room : length order.records < length slots) (gap : Gap tag order.records (n ∷ []) i) (lt : j < length buckets) (free : get_or (map number buckets) j 0 ≡ 0)
       (met : seen n (turned (start n (length buckets)) (set (map number buckets) j n)) ≡ true)
       (sl : slots' ≡ set slots (length order.records) (fresh n)) (bl : buckets' ≡ set buckets j e)
-      (ol : order' ≡ cond (leb i (length order.records) && ltb (length order.records) order.capacity) (record { records = insert order.records i e; capacity = order.capacity }) order) where
-    entries : order' ≡ record { records = insert order.records i e; capacity = order.capacity }
+      (ol : order' ≡ cond (leb i (length order.records) && ltb (length order.records) order.capacity) (record { records = insert order.records i e; capacity = order.capacity; free = drop 1 order.free }) order) where
+    entries : order' ≡ record { records = insert order.records i e; capacity = order.capacity; free = drop 1 order.free }
     entries = ol ∙ cond-true _ _ _ (and_from _ _ (le-leb i (length order.records) gap.within) (lt-ltb (length order.records) order.capacity (omega (arith, w.even))))
 
     new_parts : Parts top (length (insert order.records i e)) (set slots (length order.records) (fresh n)) (set buckets j e) (insert order.records i e)

@@ -1,6 +1,6 @@
 // The lent memory of a hashed store: slots for accounts, buckets that a hash of the number leads to, and the order
 // of the numbers. What it means, and that its parts agree, is said by the store around it. Assumes nothing.
-ghost use Rattle.std.specs.Prelude.{◌≡◌, ℕ, ◌+◌, ◌-◌, ◌*◌, ◌/◌, ◌<◌, ◌≤◌, ◌&&◌, length, if◌then◌else◌, nat_le, nat_lt, slice_index_or, slice_set};
+ghost use Rattle.std.specs.Prelude.{◌≡◌, ℕ, ◌+◌, ◌-◌, ◌*◌, ◌/◌, ◌<◌, ◌≤◌, ◌&&◌, length, drop, if◌then◌else◌, nat_le, nat_lt, slice_index_or, slice_set};
 ghost use Rattle.std.specs.List.{insert};
 ghost use Rattle.hashed_store.specs.Probing.{start, Probed};
 
@@ -110,7 +110,7 @@ impl<'a> Tables<'a> {
         requires { (s < length self.old.slots.now) × (j < length self.old.buckets.now) }
         ensures slots { self.new.slots.now ≡ slice_set self.old.slots.now s account }
         ensures buckets { self.new.buckets.now ≡ slice_set self.old.buckets.now j entry }
-        ensures order { self.new.order ≡ (if nat_le at (length self.old.order.records) && nat_lt (length self.old.order.records) self.old.order.capacity then record { records = insert self.old.order.records at entry; capacity = self.old.order.capacity } else self.old.order) }
+        ensures order { self.new.order ≡ (if nat_le at (length self.old.order.records) && nat_lt (length self.old.order.records) self.old.order.capacity then record { records = insert self.old.order.records at entry; capacity = self.old.order.capacity; free = drop 1 self.old.order.free } else self.old.order) }
     {
         self.slots[s] = account;
         self.buckets[j] = entry;

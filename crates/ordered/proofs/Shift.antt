@@ -1,9 +1,10 @@
--- What a block move and a write leave in the first slots: a record put in, taken out or replaced. Assumes nothing.
-use Rattle.std.proofs.Common.{◌≡◌, ℕ, zero, suc, ◌+◌, ◌-◌, ◌<◌, ◌≤◌, List, [], ◌∷◌, ◌++◌, None, length, get_or, take, set, sym, refl, ap, ◌∙◌, inl, inr, arith}
+-- What a block move and a write leave in the first slots, a record put in, taken out or replaced, and in the free ones. Assumes nothing.
+use Rattle.std.proofs.Common.{◌≡◌, ℕ, zero, suc, ◌+◌, ◌-◌, ◌<◌, ◌≤◌, List, [], ◌∷◌, ◌++◌, None, length, get_or, take, drop, set, sym, refl, ap, ◌∙◌, subst, inl, inr, arith}
 use Rattle.std.specs.List.{insert, remove, slice_get}
-use Rattle.std.proofs.lemmas.List.{same_lists, get_or-take, get_or-set_same, get_or-set_other, length-set, length-take-le, drop_all, take_all, append-nil}
+use Rattle.std.proofs.lemmas.List.{same_lists, get_or-take, get_or-set_same, get_or-set_other, length-set, get_or-drop, length-drop, drop-drop, drop-set-lt, drop-append-le, take-append-drop, length-take-le, drop_all, take_all, append-nil}
 use Rattle.std.proofs.lemmas.List.Edits.{length-insert, get_or-insert_below, get_or-insert_at, get_or-insert_above, length-remove, get_or-remove_below, get_or-remove_above}
 use Rattle.std.proofs.lemmas.Bool.{cases_order, cases_lt}
+use Rattle.ordered.specs.Rows.{Rows}
 
 -- the row at k, once the row r is put in at `at`
 insert_at : {X : Type 0} (xs ys : List X) (n at : ℕ) (r : X) → at ≤ n → n < length xs → length ys ≡ length xs → ((k : ℕ) (d : X) → at + 1 ≤ k → k < at + 1 + (n - at) → get_or ys k d ≡ get_or xs (at + (k - (at + 1))) d) → ((k : ℕ) (d : X) → k < at + 1 → get_or ys k d ≡ get_or xs k d) → (k : ℕ) (d : X) → k < n + 1 → get_or (take (n + 1) (set ys at r)) k d ≡ get_or (insert (take n xs) at r) k d
@@ -67,3 +68,45 @@ none_past (x ∷ xs) (suc i) e = let h = none_past xs i e in omega arith
 
 pub remove_past : {X : Type 0} (xs : List X) (i : ℕ) → length xs ≤ i → remove xs i ≡ xs
 remove_past xs i ge = ap (λ ys. take i xs ++ ys) (drop_all (suc i) xs (omega arith)) ∙ append-nil (take i xs) ∙ take_all i xs ge
+
+-- the free slots
+
+rest_is : {X : Type 0} (xs ys : List X) (n : ℕ) → length ys ≡ length xs → ((k : ℕ) (d : X) → n ≤ k → get_or ys k d ≡ get_or xs k d) → drop n ys ≡ drop n xs
+rest_is xs ys n same from =
+    same_lists _ _ (length-drop n ys ∙ ap (λ l. l - n) same ∙ sym (length-drop n xs)) (λ k d h. get_or-drop n ys k d ∙ from (n + k) d (omega arith) ∙ sym (get_or-drop n xs k d))
+
+pub insert_free : {X : Type 0} (xs ys : List X) (n at : ℕ) (r : X) → at ≤ n → length ys ≡ length xs → ((k : ℕ) (d : X) → at + 1 + (n - at) ≤ k → get_or ys k d ≡ get_or xs k d) → drop (n + 1) (set ys at r) ≡ drop (n + 1) xs
+insert_free xs ys n at r le same from = drop-set-lt (n + 1) ys at r (omega arith) ∙ rest_is xs ys (n + 1) same (λ k d h. from k d (omega arith))
+
+pub remove_free : {X : Type 0} (xs ys : List X) (n at : ℕ) → at < n → length ys ≡ length xs → ((k : ℕ) (d : X) → at + (n - (at + 1)) ≤ k → get_or ys k d ≡ get_or xs k d) → drop (n - 1) ys ≡ drop (n - 1) xs
+remove_free xs ys n at lt same from = rest_is xs ys (n - 1) same (λ k d h. from k d (omega arith))
+
+-- of the first n, those from m on, and the free ones
+freed : {X : Type 0} (xs : List X) (m n : ℕ) → m ≤ n → n ≤ length xs → drop m (take n xs) ++ drop n xs ≡ drop m xs
+freed xs m n le fits = sym (drop-append-le m (take n xs) (drop n xs) (omega (arith, length-take-le n xs fits))) ∙ ap (drop m) (take-append-drop n xs)
+
+-- what a table means of whose slots the first n hold records
+abbrev meant : {X : Type 0} → List X → ℕ → Rows X
+meant xs n = record { records = take n xs; capacity = length xs; free = drop n xs }
+
+-- what it means with one record more, and with one less
+
+module _ {X : Type 0} (xs ys : List X) (n at : ℕ) (t : Rows X) (is : meant xs n ≡ t) (same : length ys ≡ length xs) where
+  pub put_in : (r : X) → take (n + 1) ys ≡ insert (take n xs) at r → drop (n + 1) ys ≡ drop (n + 1) xs → meant ys (n + 1) ≡ record { records = insert t.records at r; capacity = t.capacity; free = drop 1 t.free }
+  put_in r in_place rest =
+      let free : drop (n + 1) ys ≡ drop 1 (drop n xs) = rest ∙ sym (drop-drop 1 n xs) in
+      subst (λ u. meant ys (n + 1) ≡ record { records = insert u.records at r; capacity = u.capacity; free = drop 1 u.free }) is (λ i. record { records = in_place i; capacity = same i; free = free i })
+
+  pub taken_out : at < n → n ≤ length xs → take (n - 1) ys ≡ remove (take n xs) at → drop (n - 1) ys ≡ drop (n - 1) xs
+      → meant ys (n - 1) ≡ record { records = remove t.records at; capacity = t.capacity; free = drop (length (remove t.records at)) t.records ++ t.free }
+  taken_out lt fits out rest =
+      let len : length (take n xs) ≡ n = length-take-le n xs fits in
+      let kept : length (remove (take n xs) at) ≡ n - 1 = omega (arith, length-remove (take n xs) at (omega arith)) in
+      let free : drop (n - 1) ys ≡ drop (length (remove (take n xs) at)) (take n xs) ++ drop n xs =
+      rest ∙ sym (ap (λ m. drop m (take n xs) ++ drop n xs) kept ∙ freed xs (n - 1) n (omega arith) fits) in
+      subst (λ u. meant ys (n - 1) ≡ record { records = remove u.records at; capacity = u.capacity; free = drop (length (remove u.records at)) u.records ++ u.free }) is
+      (λ i. record { records = out i; capacity = same i; free = free i })
+
+-- nothing is taken out from past the end
+pub none_out : {X : Type 0} (xs free : List X) (at : ℕ) → length xs ≤ at → drop (length (remove xs at)) xs ++ free ≡ free
+none_out xs free at ge = ap (λ ys. drop (length ys) xs ++ free) (remove_past xs at ge) ∙ ap (λ ys. ys ++ free) (drop_all (length xs) xs (omega arith))

@@ -1,7 +1,7 @@
 // The ordered table. Its records stand in the first `len` slots of a lent slice. That their keys rise is no
 // invariant of the table but of the type around it: look-ups promise their answers where the keys rise.
 // Assumes nothing.
-ghost use Rattle.std.specs.Prelude.{◌≡◌, ℕ, ◌+◌, ◌-◌, ◌<◌, ◌≤◌, min, ◌&&◌, List, [], length, take, if◌then◌else◌, sum_by, MatchResult, nat_le, nat_lt, slice_get, slice_set};
+ghost use Rattle.std.specs.Prelude.{◌≡◌, ℕ, ◌+◌, ◌-◌, ◌<◌, ◌≤◌, min, ◌&&◌, List, [], length, take, drop, ◌++◌, if◌then◌else◌, sum_by, MatchResult, nat_le, nat_lt, slice_get, slice_set};
 ghost use Rattle.std.specs.List.{insert, remove};
 ghost use Rattle.terms.specs.Order.{lower, Rising, above};
 ghost use Rattle.ordered.specs.Places.{Cut, Past, Sought, told};
@@ -73,7 +73,8 @@ pub fn search<R: Keyed>(records: &[R], key: R::Id) -> Result<usize, usize>
 // Writes `item` at `at`, and moves those from there on one place up.
 fn insert<R: Copy>(slots: &mut [R], len: usize, at: usize, item: R)
     requires { (at ≤ len) × (len < length slots.old) }
-    ensures { take (len + 1) slots.new ≡ insert (take len slots.old) at item }
+    ensures records { take (len + 1) slots.new ≡ insert (take len slots.old) at item }
+    ensures free { drop (len + 1) slots.new ≡ drop (len + 1) slots.old }
 {
     slots.copy_within(at..len, at + 1);
     slots[at] = item;
@@ -82,7 +83,8 @@ fn insert<R: Copy>(slots: &mut [R], len: usize, at: usize, item: R)
 // Takes the record at `at` out, and moves those after it one place down.
 fn remove<R: Copy>(slots: &mut [R], len: usize, at: usize)
     requires { (at < len) × (len ≤ length slots.old) }
-    ensures { take (len - 1) slots.new ≡ remove (take len slots.old) at }
+    ensures records { take (len - 1) slots.new ≡ remove (take len slots.old) at }
+    ensures free { drop (len - 1) slots.new ≡ drop (len - 1) slots.old }
 {
     slots.copy_within(at + 1..len, at);
 }
@@ -90,7 +92,8 @@ fn remove<R: Copy>(slots: &mut [R], len: usize, at: usize)
 // Writes `item` over the one at `at`.
 fn replace<R: Copy>(slots: &mut [R], len: usize, at: usize, item: R)
     requires { (at < len) × (len ≤ length slots.old) }
-    ensures { take len slots.new ≡ slice_set (take len slots.old) at item }
+    ensures records { take len slots.new ≡ slice_set (take len slots.old) at item }
+    ensures free { drop len slots.new ≡ drop len slots.old }
 {
     slots[at] = item;
 }
@@ -104,20 +107,20 @@ pub struct Table<'a, R: Keyed> {
 }
 
 impl<'a, R: Keyed> Model for Table<'a, R> {
-    ghost use Rattle.std.specs.Prelude.{◌≤◌, length, take};
+    ghost use Rattle.std.specs.Prelude.{◌≤◌, length, take, drop};
     ghost use Rattle.ordered.specs.Rows.{Rows};
 
     ghost Value = { Rows R };
 
-    ghost view = { λ t. record { records = take t.len t.slots.now; capacity = length t.slots.now } };
+    ghost view = { λ t. record { records = take t.len t.slots.now; capacity = length t.slots.now; free = drop t.len t.slots.now } };
 
     ghost invariant = { λ t. t.len ≤ length t.slots.now };
 }
 
 impl<'a, R: Keyed> Table<'a, R> {
-    // An empty table, whatever the slots hold.
+    // An empty table, whatever the slots hold; they hold it still.
     pub fn new(slots: &'a mut [R]) -> Self
-        ensures { result ≡ record { records = []; capacity = length slots.old } }
+        ensures { result ≡ record { records = []; capacity = length slots.old; free = slots.old } }
     {
         Table { slots, len: 0 }
     }
@@ -173,12 +176,12 @@ impl<'a, R: Keyed> Table<'a, R> {
         self.records().get(at).copied()
     }
 
-    // Puts a record in at a place, and those from there on move one place up. False where the place lies past the
-    // end or no slot is free; then nothing changes. True and false as of `HashSet::insert`: no value stands beside the
-    // flag.
+    // Puts a record in at a place, and those from there on move one place up, into the first free slot. False where
+    // the place lies past the end or no slot is free; then nothing changes. True and false as of `HashSet::insert`: no
+    // value stands beside the flag.
     pub fn insert(&mut self, at: usize, item: R) -> bool
         ensures done { result ≡ (nat_le at (length self.old.records) && nat_lt (length self.old.records) self.old.capacity) }
-        ensures after { self.new ≡ (if result then record { records = insert self.old.records at item; capacity = self.old.capacity } else self.old) }
+        ensures after { self.new ≡ (if result then record { records = insert self.old.records at item; capacity = self.old.capacity; free = drop 1 self.old.free } else self.old) }
     {
         let n = self.len;
         if at > n || n >= self.slots.len() {
@@ -189,11 +192,11 @@ impl<'a, R: Keyed> Table<'a, R> {
         true
     }
 
-    // Takes the record at a place out, and those after it move one place down. None where no record stands there;
-    // then nothing changes.
+    // Takes the record at a place out, and those after it move one place down; the slot of the last is free then, and
+    // holds what it held. None where no record stands there; then nothing changes.
     pub fn remove(&mut self, at: usize) -> Option<R>
         ensures taken { result ≡ slice_get self.old.records at }
-        ensures after { self.new ≡ record { records = remove self.old.records at; capacity = self.old.capacity } }
+        ensures after { self.new ≡ record { records = remove self.old.records at; capacity = self.old.capacity; free = drop (length (remove self.old.records at)) self.old.records ++ self.old.free } }
     {
         let taken = self.get(at)?;
         let n = self.len;
@@ -206,7 +209,7 @@ impl<'a, R: Keyed> Table<'a, R> {
     // changes.
     pub fn replace(&mut self, at: usize, item: R) -> Option<R>
         ensures taken { result ≡ slice_get self.old.records at }
-        ensures after { self.new ≡ record { records = slice_set self.old.records at item; capacity = self.old.capacity } }
+        ensures after { self.new ≡ record { records = slice_set self.old.records at item; capacity = self.old.capacity; free = self.old.free } }
     {
         let taken = self.get(at)?;
         let n = self.len;

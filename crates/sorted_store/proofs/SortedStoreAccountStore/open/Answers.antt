@@ -1,4 +1,4 @@
-use Rattle.std.proofs.Common.{◌≡◌, ◌<◌, ◌≤◌, true, cond, length, Err, ap, ◌∙◌, arith}
+use Rattle.std.proofs.Common.{◌≡◌, ◌<◌, ◌≤◌, true, cond, length, drop, Err, ap, ◌∙◌, arith}
 use Rattle.std.proofs.lemmas.Bool.{cond-true, and_from, lt-ltb, le-leb}
 use Rattle.std.specs.List.{insert}
 use Rattle.terms.specs.declared.Account.{Account}
@@ -30,7 +30,7 @@ invariant_of-self c =
     let room : length s.table.records < s.table.capacity = omega arith in
     record {
       sound = stays s.table s.top s.sound c.args.number c.in-Err.i c.insert.new.self c.insert.result (omega arith) (omega arith) (c.in-Err.ensures (ok s.table s.top s.sound).up) (λ _. room)
-          (c.insert.ensures.after ∙ ap (λ a. cond c.insert.result (record { records = insert s.table.records c.in-Err.i a; capacity = s.table.capacity }) s.table) c.new_account.ensures);
+          (c.insert.ensures.after ∙ ap (λ a. cond c.insert.result (record { records = insert s.table.records c.in-Err.i a; capacity = s.table.capacity; free = drop 1 s.table.free }) s.table) c.new_account.ensures);
     }
 
 pub returns-clause-answer : goal.returns-clause-answer
@@ -45,6 +45,6 @@ returns-clause-after c =
     let s = c.args.self.now in
     let gap = c.in-Err.ensures (ok s.table s.top s.sound).up in
     let room : length s.table.records < s.table.capacity = omega arith in
-    let to : Account → Rows Account = λ a. record { records = insert s.table.records c.in-Err.i a; capacity = s.table.capacity } in
+    let to : Account → Rows Account = λ a. record { records = insert s.table.records c.in-Err.i a; capacity = s.table.capacity; free = drop 1 s.table.free } in
     (opens s.table s.top s.sound c.args.number c.in-Err.i c.insert.new.self (omega arith) (omega arith) gap room
     (c.insert.ensures.after ∙ cond-true c.insert.result _ _ (c.insert.ensures.done ∙ and_from _ _ (le-leb _ _ gap.within) (lt-ltb _ _ room)) ∙ ap to c.new_account.ensures)).0

@@ -8,7 +8,7 @@ use Rattle.ordered.proofs.table.Table.replace.Goals as goal
 pub returns-in_err-taken-clause-after : goal.returns-in_err-taken-clause-after
 returns-in_err-taken-clause-after g c =
     let s = c.args.self.now in
-    let to : _ → Rows _ = λ xs. record { records = xs; capacity = s.capacity } in
+    let to : _ → Rows _ = λ xs. record { records = xs; capacity = s.capacity; free = s.free } in
     sym (ap to (set_past s.records c.args.at c.args.item (none_past s.records c.args.at (sym c.get.ensures ∙ c.in_err-taken.was))))
 
 pub replace-requires : goal.replace-requires
