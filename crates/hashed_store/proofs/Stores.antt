@@ -1,5 +1,5 @@
 -- The parts of a hashed store agree: at birth, and after an opening and a write. Assumes nothing.
-use Rattle.std.proofs.Common.{◌≡◌, ℕ, zero, suc, ◌<◌, ◌≤◌, true, false, cond, ◌&&◌, eqb, ltb, leb, List, [], ◌∷◌, map, length, get_or, take, drop, set, replicate, sum_by, sym, refl, ap, ◌∙◌, subst, arith}
+use Rattle.std.proofs.Common.{◌≡◌, ℕ, zero, suc, ◌<◌, ◌≤◌, true, false, cond, ◌&&◌, eqb, ltb, leb, List, [], ◌∷◌, map, length, get_or, take, set, replicate, sum_by, sym, refl, ap, ◌∙◌, subst, arith}
 use Rattle.std.specs.List.{insert, AllByRecursion}
 use Rattle.std.proofs.lemmas.List.{length-set}
 use Rattle.std.proofs.lemmas.List.Edits.{length-insert}
@@ -34,12 +34,12 @@ pub record Agrees (top : ℕ) (slots : List Account) (buckets : List Entry) (ord
   pub parts : Parts top (length order.records) slots buckets order.records
 
 module _ (top : ℕ) (slots : List Account) (buckets : List Entry) (order : Rows Entry) (w : Agrees top slots buckets order) where
-  module _ (n i j : ℕ) (e : Entry) (slots' : List Account) (buckets' : List Entry) (order' : Rows Entry) (num : e.number ≡ n) (at : e.slot ≡ length order.records) (pos : 0 < n) (le : n ≤ top)
+  module _ (n i j : ℕ) (e : Entry) (slots' : List Account) (buckets' : List Entry) (order' : Rows Entry) (fs : List Entry) (num : e.number ≡ n) (at : e.slot ≡ length order.records) (pos : 0 < n) (le : n ≤ top)
       (room : length order.records < length slots) (gap : Gap tag order.records (n ∷ []) i) (lt : j < length buckets) (free : get_or (map number buckets) j 0 ≡ 0)
       (met : seen n (turned (start n (length buckets)) (set (map number buckets) j n)) ≡ true)
       (sl : slots' ≡ set slots (length order.records) (fresh n)) (bl : buckets' ≡ set buckets j e)
-      (ol : order' ≡ cond (leb i (length order.records) && ltb (length order.records) order.capacity) (record { records = insert order.records i e; capacity = order.capacity; free = drop 1 order.free }) order) where
-    entries : order' ≡ record { records = insert order.records i e; capacity = order.capacity; free = drop 1 order.free }
+      (ol : order' ≡ cond (leb i (length order.records) && ltb (length order.records) order.capacity) (record { records = insert order.records i e; capacity = order.capacity; free = fs }) order) where
+    entries : order' ≡ record { records = insert order.records i e; capacity = order.capacity; free = fs }
     entries = ol ∙ cond-true _ _ _ (and_from _ _ (le-leb i (length order.records) gap.within) (lt-ltb (length order.records) order.capacity (omega (arith, w.even))))
 
     new_parts : Parts top (length (insert order.records i e)) (set slots (length order.records) (fresh n)) (set buckets j e) (insert order.records i e)

@@ -132,9 +132,10 @@ impl<'a, R: Keyed> Table<'a, R> {
         self.records().len()
     }
 
-    // How many there may be.
+    // How many there may be: those that there are, and one for each free slot.
     pub fn capacity(&self) -> usize
-        ensures { result ≡ self.now.capacity }
+        ensures value { result ≡ self.now.capacity }
+        ensures fits { length self.now.records + length self.now.free ≡ self.now.capacity }
     {
         self.slots.len()
     }
@@ -179,6 +180,7 @@ impl<'a, R: Keyed> Table<'a, R> {
     // Puts a record in at a place, and those from there on move one place up, into the first free slot. False where
     // the place lies past the end or no slot is free; then nothing changes. True and false as of `HashSet::insert`: no
     // value stands beside the flag.
+    #[tactic(auto, using(crate::proofs::Shift::put_in))]
     pub fn insert(&mut self, at: usize, item: R) -> bool
         ensures done { result ≡ (nat_le at (length self.old.records) && nat_lt (length self.old.records) self.old.capacity) }
         ensures after { self.new ≡ (if result then record { records = insert self.old.records at item; capacity = self.old.capacity; free = drop 1 self.old.free } else self.old) }

@@ -1,5 +1,5 @@
 -- A sorted table as an offer book: what a search finds there, and what an edit leaves. Assumes nothing.
-use Rattle.std.proofs.Common.{◌≡◌, ℕ, ◌<◌, ◌≤◌, Some, None, Option, MatchOption, true, ◌&&◌, ◌++◌, length, get_or, drop, set, sym, ap, ◌∙◌, subst, arith}
+use Rattle.std.proofs.Common.{◌≡◌, ℕ, ◌<◌, ◌≤◌, Some, None, Option, MatchOption, true, ◌&&◌, List, length, get_or, set, sym, ap, ◌∙◌, subst, arith}
 use Rattle.std.specs.List.{insert, remove}
 use Rattle.std.proofs.ByRecursion.{All-get_or}
 use Rattle.std.proofs.lemmas.Bool.{and_from, lt-ltb}
@@ -45,21 +45,21 @@ module _ (t : Rows Offer) (sound : sound_book (book_of t) ≡ true) where
   keyed : (k : Key) (i : ℕ) (d : Offer) → At place t.records (words k) i → (get_or t.records i d).key ≡ k
   keyed k i d at = key_is (get_or t.records i d).key k (at.is d)
 
-  pub places : (k : Key) (v i : ℕ) (t' : Rows Offer) → (fit_key k && is_amount v) ≡ true → Gap place t.records (words k) i → length t.records < t.capacity
-      → t' ≡ record { records = insert t.records i (record { key = k; amount = v }); capacity = t.capacity; free = drop 1 t.free }
+  pub places : (k : Key) (v i : ℕ) (t' : Rows Offer) (fs : List Offer) → (fit_key k && is_amount v) ≡ true → Gap place t.records (words k) i → length t.records < t.capacity
+      → t' ≡ record { records = insert t.records i (record { key = k; amount = v }); capacity = t.capacity; free = fs }
       → Placed (book_of t) k v (book_of t') × (sound_book (book_of t') ≡ true)
-  places k v i t' fit gap room e =
+  places k v i t' fs fit gap room e =
       subst (λ r. Placed (book_of t) k v (book_of r) × (sound_book (book_of r) ≡ true)) (sym e) (placed (book_of t) k v i ok fit gap room)
 
-  module _ (k : Key) (v i : ℕ) (o : Offer) (t' : Rows Offer) (at : At place t.records (words k) i) (is : o ≡ get_or t.records i o) where
-    pub shrinks : 0 < v → v ≤ o.amount → t' ≡ record { records = set t.records i (record { key = k; amount = v }); capacity = t.capacity; free = t.free }
+  module _ (k : Key) (v i : ℕ) (o : Offer) (t' : Rows Offer) (fs : List Offer) (at : At place t.records (words k) i) (is : o ≡ get_or t.records i o) where
+    pub shrinks : 0 < v → v ≤ o.amount → t' ≡ record { records = set t.records i (record { key = k; amount = v }); capacity = t.capacity; free = fs }
         → Reduced (book_of t) k v (book_of t') × (sound_book (book_of t') ≡ true)
     shrinks pos le e =
         let h = in_range k i o at in
         subst (λ r. Reduced (book_of t) k v (book_of r) × (sound_book (book_of r) ≡ true)) (sym e)
         (shrunk (book_of t) k v i o ok at.within (keyed k i o at) (and_from _ _ (lt-ltb 0 v pos) (lt-ltb v 68719476736 (omega (arith, h.0, h.2, ap (λ p. p.amount) is)))))
 
-    pub takes : v ≡ 0 → t' ≡ record { records = remove t.records i; capacity = t.capacity; free = drop (length (remove t.records i)) t.records ++ t.free }
+    pub takes : v ≡ 0 → t' ≡ record { records = remove t.records i; capacity = t.capacity; free = fs }
         → Reduced (book_of t) k v (book_of t') × (sound_book (book_of t') ≡ true)
     takes z e =
         let p = subst (λ r. Reduced (book_of t) k 0 (book_of r) × (sound_book (book_of r) ≡ true)) (sym e) (taken (book_of t) k i o ok at.within (keyed k i o at)) in

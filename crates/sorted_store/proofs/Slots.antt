@@ -1,5 +1,5 @@
 -- A sorted table as an account store: what a search finds there, and what an edit leaves. Assumes nothing.
-use Rattle.std.proofs.Common.{◌≡◌, ℕ, ◌<◌, ◌≤◌, Some, None, Option, MatchOption, Bool, true, false, cond, [], ◌∷◌, length, get_or, drop, set, sym, refl, ap, ◌∙◌, subst}
+use Rattle.std.proofs.Common.{◌≡◌, ℕ, ◌<◌, ◌≤◌, Some, None, Option, MatchOption, Bool, true, false, cond, List, [], ◌∷◌, length, get_or, set, sym, refl, ap, ◌∙◌, subst}
 use Rattle.std.specs.List.{insert}
 use Rattle.std.specs.Option.{is_some}
 use Rattle.std.proofs.ByRecursion.{All-get_or}
@@ -47,28 +47,28 @@ module _ (t : Rows Account) (top : ℕ) (sound : sound_store (store_of t top) �
   numbered : (n i : ℕ) (a : Account) → At name t.records (n ∷ []) i → a ≡ get_or t.records i a → a.number ≡ n
   numbered n i a at is = ap (λ b. b.number) is ∙ ap (λ l. get_or l 0 0) (at.is a)
 
-  pub opens : (n i : ℕ) (t' : Rows Account) → 0 < n → n ≤ top → Gap name t.records (n ∷ []) i → length t.records < t.capacity
-      → t' ≡ record { records = insert t.records i (fresh n); capacity = t.capacity; free = drop 1 t.free }
+  pub opens : (n i : ℕ) (t' : Rows Account) (fs : List Account) → 0 < n → n ≤ top → Gap name t.records (n ∷ []) i → length t.records < t.capacity
+      → t' ≡ record { records = insert t.records i (fresh n); capacity = t.capacity; free = fs }
       → Opened (store_of t top) n (store_of t' top) × (sound_store (store_of t' top) ≡ true)
-  opens n i t' pos le gap room e =
+  opens n i t' fs pos le gap room e =
       subst (λ r. Opened (store_of t top) n (store_of r top) × (sound_store (store_of r top) ≡ true)) (sym e) (opened (store_of t top) n i ok pos le gap room)
 
   -- the store is sound, whether the account went in or not
-  pub stays : (n i : ℕ) (t' : Rows Account) (done : Bool) → 0 < n → n ≤ top → Gap name t.records (n ∷ []) i → (done ≡ true → length t.records < t.capacity)
-      → t' ≡ cond done (record { records = insert t.records i (fresh n); capacity = t.capacity; free = drop 1 t.free }) t → sound_store (store_of t' top) ≡ true
-  stays n i t' true pos le gap room e = (opens n i t' pos le gap (room refl) e).1
-  stays n i t' false pos le gap room e = subst (λ r. sound_store (store_of r top) ≡ true) (sym e) sound
+  pub stays : (n i : ℕ) (t' : Rows Account) (fs : List Account) (done : Bool) → 0 < n → n ≤ top → Gap name t.records (n ∷ []) i → (done ≡ true → length t.records < t.capacity)
+      → t' ≡ cond done (record { records = insert t.records i (fresh n); capacity = t.capacity; free = fs }) t → sound_store (store_of t' top) ≡ true
+  stays n i t' fs true pos le gap room e = (opens n i t' fs pos le gap (room refl) e).1
+  stays n i t' fs false pos le gap room e = subst (λ r. sound_store (store_of r top) ≡ true) (sym e) sound
 
-  pub sets_balance : (n x v i : ℕ) (a : Account) (t' : Rows Account) → At name t.records (n ∷ []) i → a ≡ get_or t.records i a → x < 8 → v < 68719476736
-      → t' ≡ record { records = set t.records i (with_balance a x v); capacity = t.capacity; free = t.free }
+  pub sets_balance : (n x v i : ℕ) (a : Account) (t' : Rows Account) (fs : List Account) → At name t.records (n ∷ []) i → a ≡ get_or t.records i a → x < 8 → v < 68719476736
+      → t' ≡ record { records = set t.records i (with_balance a x v); capacity = t.capacity; free = fs }
       → BalanceSet (store_of t top) n x v (store_of t' top) × (sound_store (store_of t' top) ≡ true)
-  sets_balance n x v i a t' at is xs vs e =
+  sets_balance n x v i a t' fs at is xs vs e =
       subst (λ r. BalanceSet (store_of t top) n x v (store_of r top) × (sound_store (store_of r top) ≡ true)) (sym e)
       (balance_set (store_of t top) n x v i a ok at.within is (numbered n i a at is) xs vs)
 
-  pub sets_floor : (n v i : ℕ) (a : Account) (t' : Rows Account) → At name t.records (n ∷ []) i → a ≡ get_or t.records i a → v < 4294967296
-      → t' ≡ record { records = set t.records i (with_floor a v); capacity = t.capacity; free = t.free }
+  pub sets_floor : (n v i : ℕ) (a : Account) (t' : Rows Account) (fs : List Account) → At name t.records (n ∷ []) i → a ≡ get_or t.records i a → v < 4294967296
+      → t' ≡ record { records = set t.records i (with_floor a v); capacity = t.capacity; free = fs }
       → FloorSet (store_of t top) n v (store_of t' top) × (sound_store (store_of t' top) ≡ true)
-  sets_floor n v i a t' at is vs e =
+  sets_floor n v i a t' fs at is vs e =
       subst (λ r. FloorSet (store_of t top) n v (store_of r top) × (sound_store (store_of r top) ≡ true)) (sym e)
       (floor_set (store_of t top) n v i a ok at.within is (numbered n i a at is) vs)

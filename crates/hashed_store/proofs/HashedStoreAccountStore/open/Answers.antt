@@ -39,7 +39,7 @@ pub invariant_of-self : goal.invariant_of-self
 invariant_of-self c =
     let s = c.args.self.now in
     let w = entered s.top s.tables.slots.now s.tables.buckets.now s.tables.order (record { even = s.even; roomy = s.roomy; parts = record { laid_all = s.laid; linked = s.linked; finds = s.finds; sums = s.sums; sound = s.sound } }) c.args.number c.in-Err.i c.in-Free.j (record { number = c.args.number; slot = c.len-n.result })
-    c.enter.new.self.slots.now c.enter.new.self.buckets.now c.enter.new.self.order refl c.len-n.ensures (omega arith) (omega arith)
+    c.enter.new.self.slots.now c.enter.new.self.buckets.now c.enter.new.self.order _ refl c.len-n.ensures (omega arith) (omega arith)
     (omega (arith, c.len-n.ensures)) (c.in-Err.ensures (up s.top s.tables.slots.now s.tables.buckets.now s.tables.order.records s.sound s.laid s.linked)) c.in-Free.ensures.0 c.in-Free.ensures.1 c.in-Free.ensures.3
     (c.enter.ensures.slots ∙ ap (λ a. set s.tables.slots.now c.len-n.result a) c.new_account.ensures ∙ ap (λ k. set s.tables.slots.now k (fresh c.args.number)) c.len-n.ensures)
     c.enter.ensures.buckets c.enter.ensures.order in
@@ -56,7 +56,7 @@ pub returns-clause-after : goal.returns-clause-after
 returns-clause-after c =
     let s = c.args.self.now in
     (entered s.top s.tables.slots.now s.tables.buckets.now s.tables.order (record { even = s.even; roomy = s.roomy; parts = record { laid_all = s.laid; linked = s.linked; finds = s.finds; sums = s.sums; sound = s.sound } }) c.args.number c.in-Err.i c.in-Free.j (record { number = c.args.number; slot = c.len-n.result })
-    c.enter.new.self.slots.now c.enter.new.self.buckets.now c.enter.new.self.order refl c.len-n.ensures (omega arith) (omega arith)
+    c.enter.new.self.slots.now c.enter.new.self.buckets.now c.enter.new.self.order _ refl c.len-n.ensures (omega arith) (omega arith)
     (omega (arith, c.len-n.ensures)) (c.in-Err.ensures (up s.top s.tables.slots.now s.tables.buckets.now s.tables.order.records s.sound s.laid s.linked)) c.in-Free.ensures.0 c.in-Free.ensures.1 c.in-Free.ensures.3
     (c.enter.ensures.slots ∙ ap (λ a. set s.tables.slots.now c.len-n.result a) c.new_account.ensures ∙ ap (λ k. set s.tables.slots.now k (fresh c.args.number)) c.len-n.ensures)
     c.enter.ensures.buckets c.enter.ensures.order).0

@@ -32,7 +32,7 @@ invariant_of-self c =
     let s = c.args.self.now in
     let gap = c.in-Err.ensures (ok s.table s.sound).up in
     let room : length s.table.records < s.table.capacity = grind (arith, nat_tests, c.is_full.ensures, c.if-is_full.false) in
-    let p = places s.table s.sound c.args.key c.args.units c.in-Err.i c.insert.new.self (sym c.in_range.ensures ∙ c.if-not-in_range.false) gap room
+    let p = places s.table s.sound c.args.key c.args.units c.in-Err.i c.insert.new.self _ (sym c.in_range.ensures ∙ c.if-not-in_range.false) gap room
     (c.insert.ensures.after ∙ cond-true c.insert.result _ _ (c.insert.ensures.done ∙ and_from _ _ (le-leb _ _ gap.within) (lt-ltb _ _ room))) in
     record { sound = p.1 }
 
@@ -48,5 +48,5 @@ returns-clause-after c =
     let s = c.args.self.now in
     let gap = c.in-Err.ensures (ok s.table s.sound).up in
     let room : length s.table.records < s.table.capacity = grind (arith, nat_tests, c.is_full.ensures, c.if-is_full.false) in
-    (places s.table s.sound c.args.key c.args.units c.in-Err.i c.insert.new.self (sym c.in_range.ensures ∙ c.if-not-in_range.false) gap room
+    (places s.table s.sound c.args.key c.args.units c.in-Err.i c.insert.new.self _ (sym c.in_range.ensures ∙ c.if-not-in_range.false) gap room
     (c.insert.ensures.after ∙ cond-true c.insert.result _ _ (c.insert.ensures.done ∙ and_from _ _ (le-leb _ _ gap.within) (lt-ltb _ _ room)))).0

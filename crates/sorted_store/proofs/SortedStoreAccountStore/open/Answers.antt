@@ -29,7 +29,7 @@ invariant_of-self c =
     let s = c.args.self.now in
     let room : length s.table.records < s.table.capacity = omega arith in
     record {
-      sound = stays s.table s.top s.sound c.args.number c.in-Err.i c.insert.new.self c.insert.result (omega arith) (omega arith) (c.in-Err.ensures (ok s.table s.top s.sound).up) (λ _. room)
+      sound = stays s.table s.top s.sound c.args.number c.in-Err.i c.insert.new.self _ c.insert.result (omega arith) (omega arith) (c.in-Err.ensures (ok s.table s.top s.sound).up) (λ _. room)
           (c.insert.ensures.after ∙ ap (λ a. cond c.insert.result (record { records = insert s.table.records c.in-Err.i a; capacity = s.table.capacity; free = drop 1 s.table.free }) s.table) c.new_account.ensures);
     }
 
@@ -46,5 +46,5 @@ returns-clause-after c =
     let gap = c.in-Err.ensures (ok s.table s.top s.sound).up in
     let room : length s.table.records < s.table.capacity = omega arith in
     let to : Account → Rows Account = λ a. record { records = insert s.table.records c.in-Err.i a; capacity = s.table.capacity; free = drop 1 s.table.free } in
-    (opens s.table s.top s.sound c.args.number c.in-Err.i c.insert.new.self (omega arith) (omega arith) gap room
+    (opens s.table s.top s.sound c.args.number c.in-Err.i c.insert.new.self _ (omega arith) (omega arith) gap room
     (c.insert.ensures.after ∙ cond-true c.insert.result _ _ (c.insert.ensures.done ∙ and_from _ _ (le-leb _ _ gap.within) (lt-ltb _ _ room)) ∙ ap to c.new_account.ensures)).0

@@ -8,10 +8,10 @@ pub invariant_of-self : goal.invariant_of-self
 invariant_of-self c =
     let s = c.args.self.now in
     let at = subst (Found s.table.records c.args.number) (c.ok_or.ensures.ok_part ∙ ap result_ok c.in_ok-i.was) c.find.ensures in
-    record { sound = (sets_balance s.table s.top s.sound c.args.number c.args.asset c.args.value c.in_ok-i.i c.in_ok-i.account c.replace.new.self at.0 at.1 (omega arith) (omega arith) c.replace.ensures.after).1 }
+    record { sound = (sets_balance s.table s.top s.sound c.args.number c.args.asset c.args.value c.in_ok-i.i c.in_ok-i.account c.replace.new.self _ at.0 at.1 (omega arith) (omega arith) c.replace.ensures.after).1 }
 
 pub returns-clause-after : goal.returns-clause-after
 returns-clause-after c =
     let s = c.args.self.now in
     let at = subst (Found s.table.records c.args.number) (c.ok_or.ensures.ok_part ∙ ap result_ok c.in_ok-i.was) c.find.ensures in
-    (sets_balance s.table s.top s.sound c.args.number c.args.asset c.args.value c.in_ok-i.i c.in_ok-i.account c.replace.new.self at.0 at.1 (omega arith) (omega arith) c.replace.ensures.after).0
+    (sets_balance s.table s.top s.sound c.args.number c.args.asset c.args.value c.in_ok-i.i c.in_ok-i.account c.replace.new.self _ at.0 at.1 (omega arith) (omega arith) c.replace.ensures.after).0
