@@ -264,6 +264,7 @@ impl<K: SortKey> Ledger<K> {
 }
 
 // The net under a key, or an empty one, where the keys rise.
+#[tactic(auto, using(ordered::proofs::Rising::under_gap))]
 pub fn look_up<K: SortKey>(nets: &[Net<K>], key: K) -> Net<K>
     ensures plus { Rising (λ n. K.SortKey.rank n.key) nets.now → result.plus ≡ under (λ n. K.SortKey.rank n.key) (λ n. n.plus) nets.now (K.SortKey.rank key) }
     ensures minus { Rising (λ n. K.SortKey.rank n.key) nets.now → result.minus ≡ under (λ n. K.SortKey.rank n.key) (λ n. n.minus) nets.now (K.SortKey.rank key) }

@@ -1,5 +1,3 @@
-use Rattle.std.proofs.Common.{sym}
-use Rattle.ordered.proofs.Rising.{under_gap}
 use Rattle.tally.proofs.Finds.{found_at}
 use Rattle.tally.proofs.effects.look_up.Goals as goal
 
@@ -8,9 +6,3 @@ returns-in-Ok-clause-plus g c = λ up. found_at _ (λ n. n.plus) c.args.nets.now
 
 pub returns-in-Ok-clause-minus : goal.returns-in-Ok-clause-minus
 returns-in-Ok-clause-minus g c = λ up. found_at _ (λ n. n.minus) c.args.nets.now _ c.in-Ok.i c.index-nets-i.result up (c.in-Ok.ensures.found up) c.index-nets-i.is
-
-pub returns-in-Err-clause-plus : goal.returns-in-Err-clause-plus
-returns-in-Err-clause-plus g c = λ up. sym (under_gap _ (λ n. n.plus) c.args.nets.now _ _ (c.in-Err.ensures.found up))
-
-pub returns-in-Err-clause-minus : goal.returns-in-Err-clause-minus
-returns-in-Err-clause-minus g c = λ up. sym (under_gap _ (λ n. n.minus) c.args.nets.now _ _ (c.in-Err.ensures.found up))
