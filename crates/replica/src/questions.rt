@@ -32,7 +32,8 @@ impl<S: AccountStore, B: OfferBook> Replica<S, B> {
 
     // What rounding has left over of an asset: 0 for an asset above 7.
     pub fn remainder(&self, asset: u8) -> u64
-        ensures { result ≡ remainder self.now asset }
+        ensures value { result ≡ remainder self.now asset }
+        ensures eight { length self.now.own.remainders ≡ 8 }
     {
         self.numbers
             .remainders
@@ -50,7 +51,8 @@ impl<S: AccountStore, B: OfferBook> Replica<S, B> {
 
     // How many blocks were committed.
     pub fn committed(&self) -> u32
-        ensures { result ≡ self.now.counts.committed }
+        ensures value { result ≡ self.now.counts.committed }
+        ensures height { self.now.counts.committed ≡ self.now.own.height }
     {
         self.numbers.height
     }
